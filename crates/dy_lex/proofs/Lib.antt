@@ -1,0 +1,4 @@
+pub mod Runs
+pub mod FrontLaws
+pub mod Reading
+pub mod OneReading

@@ -1,0 +1,114 @@
+ghost use Rattle.std.specs.Prelude.{◌≡◌};
+ghost use Rattle.std.specs.List.{prefix_len, list_all};
+ghost use Rattle.std.specs.Char as ascii;
+ghost use Rattle.dy_term.specs.Characters as chars;
+ghost use Rattle.dy_lex.specs.Symbols as symbols;
+ghost use Rattle.dy_lex.specs.Fronts as fronts;
+
+use crate::tokens::TokenKind;
+use dy_term::characters::{is_text_byte, is_word_byte};
+
+/// Whether the byte is a space, a tab, a newline or a carriage return.
+pub(crate) fn is_blank(byte: u8) -> bool
+    ensures { result ≡ symbols.is_blank byte }
+{
+    (byte == b' ' || byte == b'\t') || (byte == b'\n' || byte == b'\r')
+}
+
+/// How many letters, digits and `_` stand at the front.
+fn word_len(bytes: &[u8]) -> usize
+    ensures { result ≡ prefix_len chars.is_word_byte bytes.now }
+{
+    bytes.iter().take_while(|b| is_word_byte(**b)).count()
+}
+
+/// How many bytes of a text stand at the front.
+fn text_len(bytes: &[u8]) -> usize
+    ensures { result ≡ prefix_len chars.is_text_byte bytes.now }
+{
+    bytes.iter().take_while(|b| is_text_byte(**b)).count()
+}
+
+/// Whether the byte is a symbol by itself.
+fn is_mark(byte: u8) -> bool
+    ensures { result ≡ symbols.is_mark byte }
+{
+    matches!(
+        byte,
+        b'(' | b')' | b'{' | b'}' | b',' | b';' | b':' | b'.' | b'='
+    )
+}
+
+fn are_digits(bytes: &[u8]) -> bool
+    ensures { result ≡ list_all ascii.is_ascii_digit bytes.now }
+{
+    bytes.iter().all(|b| b.is_ascii_digit())
+}
+
+/// Whether the bytes are a number.
+fn is_number(bytes: &[u8]) -> bool
+    ensures { result ≡ symbols.is_number bytes.now }
+{
+    match bytes {
+        [] => false,
+        [digit] => digit.is_ascii_digit(),
+        [first, more @ ..] => {
+            (first.is_ascii_digit() && *first != b'0') && (are_digits(more) && more.len() <= 5)
+        }
+    }
+}
+
+fn front_number(bytes: &[u8]) -> Option<(TokenKind, usize)>
+    ensures { result ≡ fronts.front_number bytes.now }
+{
+    let len = word_len(bytes);
+    if is_number(&bytes[..len]) {
+        Some((TokenKind::Number, len))
+    } else {
+        None
+    }
+}
+
+fn front_text(more: &[u8]) -> Option<(TokenKind, usize)>
+    ensures { result ≡ fronts.front_text more.now }
+{
+    let len = text_len(more);
+    if len < more.len() && more[len] == b'"' {
+        Some((TokenKind::Text, 2 + len))
+    } else {
+        None
+    }
+}
+
+fn front_arrow(more: &[u8]) -> Option<(TokenKind, usize)>
+    ensures { result ≡ fronts.front_arrow more.now }
+{
+    match more {
+        [b'>', ..] => Some((TokenKind::Symbol, 2)),
+        _ => None,
+    }
+}
+
+/// The kind and the length of the token at the front, if one begins there.
+pub(crate) fn front_token(bytes: &[u8]) -> Option<(TokenKind, usize)>
+    ensures { result ≡ fronts.front_token bytes.now }
+{
+    match bytes {
+        [] => None,
+        [b, more @ ..] => {
+            if b.is_ascii_alphabetic() {
+                Some((TokenKind::Word, word_len(bytes)))
+            } else if b.is_ascii_digit() {
+                front_number(bytes)
+            } else if *b == b'"' {
+                front_text(more)
+            } else if is_mark(*b) {
+                Some((TokenKind::Symbol, 1))
+            } else if *b == b'-' {
+                front_arrow(more)
+            } else {
+                None
+            }
+        }
+    }
+}

@@ -1,0 +1,29 @@
+-- Which bytes words and texts are made of.
+use Rattle.std.specs.Prelude.{ℕ, Bool, false, not, ◌&&◌, ◌||◌, ◌==◌, nat_le, List, [], ◌∷◌, length}
+use Rattle.std.specs.List.{list_all}
+use Rattle.std.specs.Char.{is_ascii_alphabetic, is_ascii_alphanumeric}
+
+-- a letter, a digit or `_`
+abbrev pub is_word_byte : ℕ → Bool
+is_word_byte b = is_ascii_alphanumeric b || (b == 95)
+
+-- a letter, and then letters, digits and `_`, of any number
+abbrev pub is_long_word : List ℕ → Bool
+is_long_word [] = false
+is_long_word (b ∷ more) = is_ascii_alphabetic b && list_all is_word_byte more
+
+-- a word has at most 32 bytes
+abbrev pub is_word : List ℕ → Bool
+is_word bytes = is_long_word bytes && nat_le (length bytes) 32
+
+-- printable ASCII other than `"` and `\`
+abbrev pub is_text_byte : ℕ → Bool
+is_text_byte b = (nat_le 32 b && nat_le b 126) && (not (b == 34) && not (b == 92))
+
+-- a text of any length
+abbrev pub is_long_text : List ℕ → Bool
+is_long_text bytes = list_all is_text_byte bytes
+
+-- a text has at most 32 bytes
+abbrev pub is_text : List ℕ → Bool
+is_text bytes = is_long_text bytes && nat_le (length bytes) 32

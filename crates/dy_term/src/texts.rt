@@ -1,0 +1,62 @@
+ghost use Rattle.std.specs.Prelude.{◌≡◌, ◌↔◌, true, IsSome, IfSome};
+ghost use Rattle.std.specs.Str.{bytes_eq};
+ghost use Rattle.dy_term.specs.Characters.{is_text};
+
+use crate::characters::is_long_text;
+use crate::short::Short;
+use std::marker::Model;
+
+/// A text: at most 32 printable ASCII characters other than `"` and `\`.
+#[derive(Debug, Drop)]
+pub struct Text {
+    kept: Short,
+}
+
+impl Model for Text {
+    ghost use Rattle.std.specs.Prelude.{◌≡◌, ℕ, List, true};
+    ghost use Rattle.dy_term.specs.Characters.{is_text};
+
+    ghost Value = { List ℕ };
+
+    ghost view = { λ t. t.kept };
+
+    ghost invariant = { λ t. is_text t.kept ≡ true };
+}
+
+impl Text {
+    /// These bytes as a text, or `None` where they are none.
+    pub fn new(bytes: &[u8]) -> Option<Text>
+        ensures bytes { IfSome result (λ text. text ≡ bytes.now) }
+        ensures found { IsSome result ↔ (is_text bytes.now ≡ true) }
+    {
+        if is_long_text(bytes) && bytes.len() <= 32 {
+            Some(Text {
+                kept: Short::new(bytes),
+            })
+        } else {
+            None
+        }
+    }
+
+    pub fn as_bytes(&self) -> &[u8]
+        ensures bytes { result.now ≡ self.now }
+        ensures text { is_text self.now ≡ true }
+    {
+        self.kept.as_bytes()
+    }
+
+    pub fn copy(&self) -> Text
+        ensures { result ≡ self.now }
+    {
+        Text {
+            kept: self.kept.copy(),
+        }
+    }
+
+    /// Whether the two are the same text.
+    pub fn same(&self, other: &Text) -> bool
+        ensures { result ≡ bytes_eq self.now other.now }
+    {
+        self.as_bytes() == other.as_bytes()
+    }
+}

@@ -1,0 +1,4 @@
+pub mod Words
+pub mod DueCases
+pub mod Owed
+pub mod OneDue

@@ -1,0 +1,15 @@
+ghost use Rattle.std.specs.Prelude.{◌≡◌, ℕ, List};
+ghost use Rattle.dy_tool.specs.Due.{IsDue};
+ghost use Rattle.dy_tool.specs.declared.statuses.Status.{Status};
+
+use dy_check::one_verdict;
+use dy_parse::one_file;
+
+/// For words and input bytes one status and one text are due, and no others.
+pub fn one_answer()
+    ensures { (words : List (List ℕ)) (bytes : List ℕ) (status other : Status) (text other_text : List ℕ) →
+        IsDue words bytes status text → IsDue words bytes other other_text → (status ≡ other) × (text ≡ other_text) }
+{
+    one_file();
+    one_verdict();
+}

@@ -1,0 +1,14 @@
+//! The commands of the program, over any source and sink.
+#![tactic(auto)]
+
+mod commands;
+mod judging;
+mod laws;
+mod statuses;
+
+pub use commands::quiet;
+pub use laws::one_answer;
+pub use statuses::Status;
+
+#[cfg(test)]
+mod tests;

@@ -1,0 +1,41 @@
+ghost use Rattle.std.specs.Prelude.{◌≡◌};
+ghost use Rattle.dy_tool.specs.Statuses as statuses;
+
+/// How a command ends.
+#[derive(Clone, Copy, Debug, PartialEq, Eq)]
+pub enum Status {
+    /// The command did what it is for.
+    Done,
+    /// The file is well formed and not typed.
+    NotAccepted,
+    /// The words are none that are accepted.
+    Words,
+    /// The input is no file of the language, as far as it is built.
+    Input,
+    /// The source failed.
+    ReadFault,
+    /// The sink failed.
+    WriteFault,
+    /// Memory was wanting.
+    Memory,
+    /// More than 1,048,576 bytes came.
+    TooLong,
+}
+
+impl Status {
+    /// The number that the program exits with, from 0 to 7.
+    pub fn number(self) -> u8
+        ensures { result ≡ statuses.number self }
+    {
+        match self {
+            Status::Done => 0,
+            Status::NotAccepted => 1,
+            Status::Words => 2,
+            Status::Input => 3,
+            Status::ReadFault => 4,
+            Status::WriteFault => 5,
+            Status::Memory => 6,
+            Status::TooLong => 7,
+        }
+    }
+}

@@ -1,0 +1,316 @@
+ghost use Rattle.std.specs.Prelude.{◌<◌};
+
+use super::*;
+use dy_io::{MemSink, MemSource};
+use std::alloc::{AllocError, Global};
+use std::process::Abort;
+use std::test::*;
+
+/// A job that is opened and closed, once as the protocol says.
+const JOB: &[u8] = b"dystar 1
+event Open(name a, name b);
+event Close(name a, name b) after Open(a, b) unless b;
+handler Job args(b) {
+  event Open(self, b);
+  send \"job\";
+  send b;
+  event Close(self, b);
+}
+";
+
+/// What a command answered and wrote, and what its source and sink counted.
+#[derive(Drop)]
+struct Outcome {
+    status: Status,
+    written: Vec<u8>,
+    left: usize,
+    reads: u64,
+}
+
+/// How the source and the sink behave: the bytes of a piece, and the calls that fail.
+#[derive(Clone, Copy)]
+struct Outside {
+    piece: usize,
+    failing_read: u64,
+    failing_write: u64,
+}
+
+/// Nothing fails, and everything comes at once.
+const KIND: Outside = Outside {
+    piece: 1000,
+    failing_read: 0,
+    failing_write: 0,
+};
+
+fn carry_out(
+    alloc: Global,
+    words: &[&str],
+    input: &[u8],
+    outside: Outside,
+) -> Result<Outcome, AllocError> {
+    let mut owned = Vec::new(alloc);
+    for word in words {
+        owned.push(String::from_str(alloc, word)?)?;
+    }
+    let piece = outside.piece.max(1);
+    let mut source = MemSource::new(
+        input.to_vec(alloc)?,
+        piece,
+        vec![in alloc; outside.failing_read]?,
+    );
+    let mut sink = MemSink::new(
+        Vec::new(alloc),
+        piece,
+        vec![in alloc; outside.failing_write]?,
+    );
+    let status = quiet(alloc, &owned, &mut source, &mut sink);
+    Ok(Outcome {
+        status,
+        written: sink.held.clone()?,
+        left: source.bytes.len(),
+        reads: source.calls,
+    })
+}
+
+fn assert_answers(
+    rt: &(impl AllocGlobal + Abort),
+    input: &[u8],
+    status: Status,
+    text: &[u8],
+) -> Result<(), AllocError> {
+    let got = carry_out(rt.alloc(), &["check"], input, KIND)?;
+    assert_eq!(rt; got.status, status);
+    assert_eq!(rt; got.written.as_slice(), text);
+    assert_eq!(rt; got.left, 0);
+    Ok(())
+}
+
+#[test]
+fn an_event_behind_its_partner_is_accepted(rt: HostRuntime) -> Result<(), Fail> {
+    assert_answers(&rt, JOB, Status::Done, b"accepted 1 handlers\n")?;
+    // a variable may have the name of a handler, an event or a handler the same
+    let renamed = b"dystar 1
+event Job(name a, name b);
+event Close(name a, name b) after Job(a, b) unless b;
+handler Job args(Job) { event Job(self, Job); event Close(self, Job); }
+handler Close args(a, b) { event Job(self, b); send a; event Close(self, b); }
+";
+    assert_answers(&rt, renamed, Status::Done, b"accepted 2 handlers\n")?;
+    assert_answers(&rt, b"dystar 1", Status::Done, b"accepted 0 handlers\n")?;
+    Ok(())
+}
+
+#[test]
+fn the_first_statement_that_lacks_a_partner_is_refused(rt: HostRuntime) -> Result<(), Fail> {
+    let events = "dystar 1
+event Ask(name a, name b);
+event Pay(name a, b);
+event Ship(name a, name b) after Ask(a, b) unless b, Pay(b, a) unless a;
+";
+    let cases: [(&str, &str); 7] = [
+        // the second partner is missing: it has the principals the other way round
+        (
+            "handler Sell args(c) { event Ask(self, c); event Pay(self, c);\nevent Ship(self, c); }",
+            "refused line 6 c6 field 2\n",
+        ),
+        // the first one is missing, and the second too
+        (
+            "handler Sell args(c) { event Ship(self, c); }",
+            "refused line 5 c6 field 1\n",
+        ),
+        // with `self` in both places the two orders are one
+        (
+            "handler Sell args() { event Pay(self, self); event Ask(self, self); event Ship(self, self); }",
+            "accepted 1 handlers\n",
+        ),
+        // another name is another argument
+        (
+            "handler Sell args(c, d) { event Ask(self, d);\n\nevent Ship(self, c); }",
+            "refused line 7 c6 field 1\n",
+        ),
+        // a later statement does not help
+        (
+            "handler Sell args(c) { event Ship(self, c); event Ask(self, c); }",
+            "refused line 5 c6 field 1\n",
+        ),
+        // nor does another handler
+        (
+            "handler First args(c) { event Ask(self, c); }\nhandler Sell args(c) { event Ship(self, c); }",
+            "refused line 6 c6 field 1\n",
+        ),
+        // the first refused handler is named, and its first refused statement
+        (
+            "handler Sell args(c) { event Ask(self, c); send c;\nevent Ship(self, c);\nevent Ship(self, self); }\nhandler Again args() { event Ship(self, self); }",
+            "refused line 6 c6 field 2\n",
+        ),
+    ];
+    for (handlers, text) in cases {
+        let input = format!(in rt.alloc(); "{events}{handlers}")?;
+        let got = carry_out(rt.alloc(), &["check"], input.as_bytes(), KIND)?;
+        assert_eq!(rt; got.written.as_slice(), text.as_bytes(), "{handlers}");
+    }
+    Ok(())
+}
+
+#[test]
+fn what_is_no_file_is_not_built(rt: HostRuntime) -> Result<(), Fail> {
+    let inputs: [&[u8]; 22] = [
+        b"",
+        b"dystar 2",
+        b"dystar 1\nhandler H args() { new x : Rand() secret self; }",
+        b"dystar 1\nhandler H args() { send \"pi",
+        // declared twice
+        b"dystar 1 handler H args() { } handler H args(a) { }",
+        b"dystar 1 event E(name a); event E(name a, b);",
+        b"dystar 1 handler H args(a, a) { }",
+        b"dystar 1 event E(name a, a);",
+        // not declared, or not bound
+        b"dystar 1 handler H args() { event E(self); }",
+        b"dystar 1 handler H args() { send a; }",
+        b"dystar 1 event E(name a) after F(a) unless a;",
+        b"dystar 1 event E(name a) after E(b) unless a;",
+        b"dystar 1 event E(name a) after E(self) unless a;",
+        b"dystar 1 event E(name a) after E(a) unless b;",
+        // lists of another length
+        b"dystar 1 event E(name a, b); handler H args() { event E(self); }",
+        b"dystar 1 event E(name a, b); handler H args() { event E(); }",
+        b"dystar 1 event E(name a, b) after E(a) unless a;",
+        // a name is asked for
+        b"dystar 1 event E(name a, b) after E(b, a) unless a;",
+        b"dystar 1 event E(name a, b) after E(a, b) unless b;",
+        b"dystar 1 event E(a);",
+        b"dystar 1 event E();",
+        // `self` comes first
+        b"dystar 1 event E(name a); handler H args(b) { event E(b); }",
+    ];
+    for input in inputs {
+        assert_answers(&rt, input, Status::Input, b"not built\n")?;
+    }
+    Ok(())
+}
+
+#[test]
+fn one_byte_past_the_limit_is_too_long(rt: HostRuntime) -> Result<(), Fail> {
+    let mut input = vec![in rt.alloc(); b' '; 1_048_576]?;
+    for (place, byte) in input.iter_mut().zip(b"dystar 1") {
+        *place = *byte;
+    }
+    let big = Outside {
+        piece: 1 << 20,
+        ..KIND
+    };
+    let got = carry_out(rt.alloc(), &["check"], &input, big)?;
+    assert_eq!(rt; got.status, Status::Done);
+    input.push(b' ')?;
+    let got = carry_out(rt.alloc(), &["check"], &input, big)?;
+    assert_eq!(rt; got.status, Status::TooLong);
+    assert_eq!(rt; got.written.as_slice(), b"too long\n".as_slice());
+    Ok(())
+}
+
+#[test]
+fn refused_words_read_nothing(rt: HostRuntime) -> Result<(), Fail> {
+    let lists: [&[&str]; 7] = [
+        &[],
+        &["show"],
+        &["check", "x"],
+        &["check", "check"],
+        &["Check"],
+        &["check "],
+        &[""],
+    ];
+    for words in lists {
+        let got = carry_out(rt.alloc(), words, JOB, KIND)?;
+        assert_eq!(rt; got.status, Status::Words);
+        assert_eq!(rt; got.written.as_slice(), b"bad words\n".as_slice());
+        assert_eq!(rt; got.reads, 0);
+    }
+    Ok(())
+}
+
+#[test]
+fn each_read_that_fails_leaves_nothing_written(rt: HostRuntime) -> Result<(), Fail> {
+    // the reads that a piece takes, and the one behind the last byte
+    for (piece, reads) in [(1, 188), (7, 28), (40, 6)] {
+        for failing_read in 1..=reads {
+            let outside = Outside {
+                piece,
+                failing_read,
+                failing_write: 0,
+            };
+            let got = carry_out(rt.alloc(), &["check"], JOB, outside)?;
+            assert_eq!(rt;
+                got.status,
+                Status::ReadFault,
+                "read {failing_read} of {piece}"
+            );
+            assert!(rt; got.written.is_empty());
+        }
+    }
+    Ok(())
+}
+
+#[test]
+fn each_write_that_fails_leaves_a_front(rt: HostRuntime) -> Result<(), Fail> {
+    let text: &[u8] = b"accepted 1 handlers\n";
+    for (piece, writes) in [(1, 20), (7, 3), (40, 1)] {
+        for failing_write in 1..=writes {
+            let outside = Outside {
+                piece,
+                failing_read: 0,
+                failing_write,
+            };
+            let got = carry_out(rt.alloc(), &["check"], JOB, outside)?;
+            assert_eq!(rt;
+                got.status,
+                Status::WriteFault,
+                "write {failing_write} of {piece}"
+            );
+            assert!(rt; text.starts_with(&got.written));
+            assert_eq!(rt;
+                got.written.len() as u64,
+                (failing_write - 1) * piece as u64
+            );
+        }
+        let all = Outside {
+            piece,
+            failing_read: 0,
+            failing_write: writes + 1,
+        };
+        assert_eq!(rt;
+            carry_out(rt.alloc(), &["check"], JOB, all)?.status,
+            Status::Done
+        );
+    }
+    Ok(())
+}
+
+#[test]
+fn a_refusal_that_cannot_be_written_is_a_write_fault(rt: HostRuntime) -> Result<(), Fail> {
+    let outside = Outside {
+        failing_write: 1,
+        ..KIND
+    };
+    for (words, input) in [(["check"], b"".as_slice()), (["show"], JOB)] {
+        let got = carry_out(rt.alloc(), &words, input, outside)?;
+        assert_eq!(rt; got.status, Status::WriteFault);
+        assert!(rt; got.written.is_empty());
+    }
+    Ok(())
+}
+
+#[test]
+fn each_status_has_its_number(rt: HostRuntime) {
+    for (status, number) in [
+        (Status::Done, 0),
+        (Status::NotAccepted, 1),
+        (Status::Words, 2),
+        (Status::Input, 3),
+        (Status::ReadFault, 4),
+        (Status::WriteFault, 5),
+        (Status::Memory, 6),
+        (Status::TooLong, 7),
+    ] {
+        assert_eq!(rt; status.number(), number);
+    }
+}
