@@ -1,3 +1,9 @@
 pub mod Fits
+pub mod Indexed
+pub mod Interleaved
+pub mod Named
+pub mod Ordered
+pub mod Partnered
 pub mod Splits
 pub mod Typed
+pub mod Walks

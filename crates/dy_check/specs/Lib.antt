@@ -1,2 +1,3 @@
 pub mod Partners
+pub mod Small
 pub mod Typing

@@ -6,11 +6,15 @@ use Rattle.std.specs.Cmp.Lexicographic.{pointwise}
 use Rattle.dy_syntax.specs.Files.{Name, Me, Named, Atom, Action, Triggers, Sends, Stmt, Parameter, PartnerText, EventText, Declaration}
 use Rattle.dy_syntax.specs.Rules.{event_named}
 
+-- what stands beside this word in a list of values
+abbrev pub beside : {A : Type 0} → List (List ℕ) → List A → List ℕ → Option A
+beside [] values word = None
+beside (w ∷ words) [] word = None
+beside (w ∷ words) (value ∷ values) word = if bytes_eq w word then Some value else beside words values word
+
 -- the argument at the place of this parameter
-abbrev pub argument_for : List Parameter → List Name → List ℕ → Option Name
-argument_for [] args word = None
-argument_for (p ∷ params) [] word = None
-argument_for (p ∷ params) (arg ∷ args) word = if bytes_eq p.name word then Some arg else argument_for params args word
+abbrev pub argument_for : {A : Type 0} → List Parameter → List A → List ℕ → Option A
+argument_for params args word = beside (map (λ p. p.name) params) args word
 
 -- what stands for a name of a declaration
 abbrev pub put_in : List Parameter → List Name → Name → Name

@@ -1,4 +1,4 @@
-//! Decides whether each event of a protocol file stands behind its partners.
+//! Decides whether each event of a protocol file stands behind its partners, and says what follows for its interleavings.
 #![tactic(auto)]
 
 mod checking;
@@ -6,4 +6,4 @@ mod laws;
 mod partners;
 
 pub use checking::{Verdict, check};
-pub use laws::one_verdict;
+pub use laws::{one_verdict, typed_keeps_order};

@@ -1,5 +1,5 @@
 -- What is owed, and what the sink holds once it is said.
-use Rattle.std.proofs.Common.{◌≡◌, ◌≢◌, ℕ, ◌+◌, List, [], length, Option, Some, None, refl, inl, inr, arith}
+use Rattle.std.proofs.Common.{◌≡◌, ◌≢◌, ℕ, ◌+◌, List, [], length, Option, Some, None, IfSome, refl, sym, subst, ◌∙◌, inl, inr, arith}
 use Rattle.std.proofs.lemmas.List.{length-append}
 use Rattle.dy_io.specs.Bytes.{Came}
 use Rattle.dy_tool.specs.declared.statuses.Status.{Status}
@@ -52,3 +52,16 @@ said_leaves words left held after faults faults_after status text result owed sa
       | inl whole ↦ rw whole.0 (wrote_leaves words left held after status (record { text = text; owed = owed; written = whole.1 }))
       | inr broken ↦ rw broken.0 (record { status = status; text = text; owed = owed; written = broken.1 })
     ]
+
+-- a text is said with its status, unless writing fails
+pub said_done : (held after : Option (List ℕ)) (faults faults_after : ℕ) (status : Status) (text : List ℕ) (result : Status) → Says held after faults faults_after status text result → result ≡ Done → status ≡ Done
+said_done held after faults faults_after status text result said done =
+    elim said [
+      | inl whole ↦ sym whole.0 ∙ done
+      | inr broken ↦ absurd (let other : WriteFault ≡ Done = sym broken.0 ∙ done in cc)
+    ]
+
+-- what holds of the bytes that came holds of those that were there, where they are told
+pub told_holds : (P : List ℕ → Type 0) (left : Option (List ℕ)) (bytes : List ℕ) → IfSome left (λ all. bytes ≡ all) → P bytes → IfSome left P
+told_holds P None bytes told holds = tt
+told_holds P (Some all) bytes told holds = subst P told holds

@@ -3,6 +3,7 @@ use Rattle.std.specs.Prelude.{◌≡◌, ◌≢◌, ℕ, ◌<◌, ◌≤◌, tru
 use Rattle.dy_syntax.specs.Files.{FileText, handlers_in}
 use Rattle.dy_syntax.specs.Rules.{is_well_formed}
 use Rattle.dy_parse.specs.Files.{Reads}
+use Rattle.dy_check.specs.Small.{Entry, Interleaves, KeepsOrder}
 use Rattle.dy_check.specs.Typing.{IsTyped, IsRefused}
 use Rattle.dy_tool.specs.declared.statuses.Status.{Status}
 use Rattle.dy_tool.specs.declared.statuses.Status.TheVariants.{Done, NotAccepted, Words, Input, ReadFault, WriteFault, Memory, TooLong}
@@ -12,6 +13,10 @@ use Rattle.dy_tool.specs.Texts.{accepted_text, refused_text, bad_words, not_buil
 pub record IsProtocol (bytes : List ℕ) (file : FileText) : Type 0 where
   pub reads : Reads bytes file
   pub well_formed : is_well_formed file ≡ true
+
+-- In every interleaving of a file that the bytes are, each event stands behind its partners.
+abbrev pub OrderIsKept : List ℕ → Type 0
+OrderIsKept bytes = (file : FileText) (T : List Entry) → IsProtocol bytes file → Interleaves bytes file T → KeepsOrder file.decls T
 
 -- what `check` is to answer for these bytes
 abbrev pub IsDueByCheck : List ℕ → Status → List ℕ → Type 0

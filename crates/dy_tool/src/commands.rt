@@ -1,10 +1,11 @@
-ghost use Rattle.std.specs.Prelude.{◌≡◌, ◌≢◌, ◌≤◌, ◌↔◌, ◌⊎◌, map, IsTrue, string_bytes};
+ghost use Rattle.std.specs.Prelude.{◌≡◌, ◌≢◌, ◌≤◌, ◌↔◌, ◌⊎◌, map, IfSome, IsTrue, string_bytes};
 ghost use Rattle.std.specs.Io.KnownBytes.{Keeps};
 ghost use Rattle.dy_io.specs.Faults.{Rose};
 ghost use Rattle.dy_tool.specs.Answers.{Leaves, Says};
-ghost use Rattle.dy_tool.specs.Due.{check_words};
+ghost use Rattle.dy_tool.specs.Due.{check_words, OrderIsKept};
 
 use crate::judging::judge;
+use crate::laws::accepted_keeps_order;
 use crate::statuses::Status;
 use dy_io::{ReadError, Sink, Source, WriteError, read_all, write_all};
 use std::alloc::Global;
@@ -26,6 +27,9 @@ pub fn quiet<S: Source, K: Sink>(
     // The status and the text are those that are due.
     ensures leaves { Leaves (map string_bytes words.now) (S.left source.old) (K.held sink.old) (K.held sink.new) result }
 
+    // Where it is Done, every interleaving of the bytes keeps the order of events.
+    ensures order { result ≡ Status.Done → IfSome (S.left source.old) OrderIsKept }
+
     // With refused words nothing is read, and no memory is wanted.
     ensures refused { map string_bytes words.now ≢ check_words → (result ≡ Status.Words) ⊎ (result ≡ Status.WriteFault) }
     ensures unread { map string_bytes words.now ≢ check_words → Keeps (S.left source.old) (S.left source.new) × (S.faults source.new ≡ S.faults source.old) }
@@ -43,7 +47,10 @@ pub fn quiet<S: Source, K: Sink>(
     }
     match read_all(alloc, source, LIMIT) {
         Ok(bytes) => match judge(alloc, &bytes) {
-            Ok(answer) => say(sink, answer.status, answer.text.as_bytes()),
+            Ok(answer) => {
+                accepted_keeps_order();
+                say(sink, answer.status, answer.text.as_bytes())
+            }
             Err(_) => Status::Memory,
         },
         Err(ReadError::TooLong) => say(sink, Status::TooLong, b"too long\n"),

@@ -1,8 +1,8 @@
 ghost use Rattle.std.specs.Prelude.{◌≡◌, ℕ, List};
-ghost use Rattle.dy_tool.specs.Due.{IsDue};
+ghost use Rattle.dy_tool.specs.Due.{IsDue, IsDueByCheck, OrderIsKept};
 ghost use Rattle.dy_tool.specs.declared.statuses.Status.{Status};
 
-use dy_check::one_verdict;
+use dy_check::{one_verdict, typed_keeps_order};
 use dy_parse::one_file;
 
 /// For words and input bytes one status and one text are due, and no others.
@@ -12,4 +12,12 @@ pub fn one_answer()
 {
     one_file();
     one_verdict();
+}
+
+/// Where the bytes are to be accepted, each of their interleavings keeps the order of events.
+pub fn accepted_keeps_order()
+    ensures { (bytes text : List ℕ) → IsDueByCheck bytes Status.Done text → OrderIsKept bytes }
+{
+    one_file();
+    typed_keeps_order();
 }

@@ -7,7 +7,7 @@ mod laws;
 mod statuses;
 
 pub use commands::quiet;
-pub use laws::one_answer;
+pub use laws::{accepted_keeps_order, one_answer};
 pub use statuses::Status;
 
 #[cfg(test)]

@@ -1,8 +1,9 @@
-use Rattle.std.proofs.Common.{map}
+use Rattle.std.proofs.Common.{map, subst}
 use Rattle.std.specs.Prelude.{string_bytes}
-use Rattle.dy_tool.specs.Due.{IsDueByCheck}
+use Rattle.dy_tool.specs.declared.statuses.Status.{Status}
+use Rattle.dy_tool.specs.Due.{IsDueByCheck, OrderIsKept}
 use Rattle.dy_tool.specs.Answers.{Owes}
-use Rattle.dy_tool.proofs.Owed.{due_with_check, owes_words, owes_too_long, said_leaves}
+use Rattle.dy_tool.proofs.Owed.{due_with_check, owes_words, owes_too_long, said_leaves, said_done, told_holds}
 use Rattle.dy_tool.proofs.commands.quiet.Goals as goal
 
 pub returns-then-not-is_check-clause-leaves : goal.returns-then-not-is_check-clause-leaves
@@ -29,3 +30,12 @@ returns-in-Err-TooLong-clause-leaves g c =
     let words = map string_bytes c.args.words.now in
     let owed = owes_too_long words (g.S.Source.left c.args.source.now) (g.S.Source.left c.read_all.new.source) (c.is_check.ensures.0 c.if-not-is_check.false) (c.in-Err-TooLong.ensures.too_long (cc)) in
     said_leaves _ _ _ _ _ _ _ _ _ owed c.say-in-Err-TooLong.ensures
+
+pub returns-in-Ok-judge-clause-order : goal.returns-in-Ok-judge-clause-order
+returns-in-Ok-judge-clause-order g c = λ done.
+    let answer = c.in-Ok-judge.answer in
+    let bytes = c.in-Ok.bytes.items in
+    let text = string_bytes answer.text in
+    let judged : IsDueByCheck bytes answer.status text = rw c.deref.ensures.value at c.in-Ok-judge.ensures in
+    let is_done = said_done _ _ _ _ answer.status text _ (rw c.as_bytes.ensures.value at c.say-in-Ok-judge.ensures) done in
+    told_holds OrderIsKept (g.S.Source.left c.args.source.now) bytes c.in-Ok.ensures.whole (c.accepted_keeps_order.ensures bytes text (subst (λ (status : Status). IsDueByCheck bytes status text) is_done judged))
