@@ -6,10 +6,10 @@ use Rattle.std.proofs.lemmas.Bool.{cases_Bool, and_parts, and_from, cond-true, c
 use Rattle.std.proofs.lemmas.Bool.Decides.{nat_tests}
 use Rattle.std.proofs.lemmas.List.{length-take, length-append, append_assoc, take_at, take_more, get_or_at}
 use Rattle.std.proofs.lemmas.List.Sums.{prefix_len-le-length}
-use Rattle.dy_term.specs.Characters.{is_word_byte, is_text_byte, is_long_word, is_long_text}
+use Rattle.dy_term.specs.Characters.{is_word_byte, is_text_byte, is_long_word, is_long_text, quoted}
 use Rattle.dy_lex.specs.declared.tokens.TokenKind.{TokenKind}
 use Rattle.dy_lex.specs.declared.tokens.TokenKind.TheVariants.{Word, Number, Text, Symbol}
-use Rattle.dy_lex.specs.Symbols.{is_blank, is_number, is_mark, is_symbol, quoted, IsToken, runs_on}
+use Rattle.dy_lex.specs.Symbols.{is_blank, is_number, is_mark, is_symbol, IsToken, runs_on}
 use Rattle.dy_lex.specs.Fronts.{front_number, front_text, front_arrow, front_token}
 use Rattle.dy_lex.specs.Tokens.{IsNoToken}
 use Rattle.dy_lex.proofs.Runs.{list_all-weaker, prefix_len-through, list_all-prefix, prefix_len-behind}

@@ -1,8 +1,8 @@
 -- Which bytes are a token, each kind apart.
-use Rattle.std.specs.Prelude.{◌≡◌, ℕ, Bool, true, false, not, ◌&&◌, ◌||◌, ◌==◌, nat_le, List, [], ◌∷◌, ◌++◌, length, codes}
+use Rattle.std.specs.Prelude.{◌≡◌, ℕ, Bool, true, false, not, ◌&&◌, ◌||◌, ◌==◌, nat_le, List, [], ◌∷◌, length, codes}
 use Rattle.std.specs.List.{list_all, list_any}
 use Rattle.std.specs.Char.{is_ascii_digit}
-use Rattle.dy_term.specs.Characters.{is_word_byte, is_long_word, is_long_text}
+use Rattle.dy_term.specs.Characters.{is_word_byte, is_long_word, is_long_text, quoted}
 use Rattle.dy_lex.specs.declared.tokens.TokenKind.{TokenKind}
 use Rattle.dy_lex.specs.declared.tokens.TokenKind.TheVariants.{Word, Number, Text, Symbol}
 
@@ -26,10 +26,6 @@ is_symbol [] = false
 is_symbol (b ∷ []) = is_mark b
 is_symbol (b ∷ c ∷ []) = (b == 45) && (c == 62)
 is_symbol (b ∷ c ∷ d ∷ more) = false
-
--- the bytes of a text between two `"`
-abbrev pub quoted : List ℕ → List ℕ
-quoted inner = 34 ∷ (inner ++ 34 ∷ [])
 
 -- the bytes are a token of this kind
 abbrev pub IsToken : TokenKind → List ℕ → Type 0

@@ -5,10 +5,9 @@ use Rattle.std.specs.Str.{bytes_eq}
 use Rattle.std.proofs.lemmas.Bool.{and_parts, both_ways, false_from_ne_true, not-true, eqb-true, leb-true, le-leb}
 use Rattle.std.proofs.lemmas.List.{length-append, take_at, take_all, take_more, get_or_at}
 use Rattle.std.proofs.lemmas.Slice.Eq.{bytes_eq-Decides}
-use Rattle.dy_term.specs.Characters.{is_word, is_text}
+use Rattle.dy_term.specs.Characters.{is_word, is_text, quoted}
 use Rattle.dy_lex.specs.declared.tokens.TokenKind.{TokenKind}
 use Rattle.dy_lex.specs.declared.tokens.TokenKind.TheVariants.{Word, Number, Text, Symbol}
-use Rattle.dy_lex.specs.Symbols.{quoted}
 use Rattle.dy_lex.specs.Tokens.{Piece}
 use Rattle.dy_syntax.specs.Files as files
 use Rattle.dy_syntax.specs.Files.{Name}

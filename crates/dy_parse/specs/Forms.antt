@@ -3,9 +3,8 @@
 use Rattle.std.specs.Prelude.{◌≡◌, ℕ, true, List, [], ◌∷◌, codes, ◌&&◌, not, Bool}
 use Rattle.dy_lex.specs.declared.tokens.TokenKind.{TokenKind}
 use Rattle.dy_lex.specs.declared.tokens.TokenKind.TheVariants.{Word, Text, Symbol}
-use Rattle.dy_lex.specs.Symbols.{quoted}
 use Rattle.dy_lex.specs.Tokens.{Piece}
-use Rattle.dy_term.specs.Characters.{is_word, is_text}
+use Rattle.dy_term.specs.Characters.{is_word, is_text, quoted}
 use Rattle.dy_parse.specs.Words.{is_reserved}
 
 -- a token with these bytes, on this line

@@ -1,5 +1,5 @@
 -- Which bytes words and texts are made of.
-use Rattle.std.specs.Prelude.{ℕ, Bool, false, not, ◌&&◌, ◌||◌, ◌==◌, nat_le, List, [], ◌∷◌, length}
+use Rattle.std.specs.Prelude.{ℕ, Bool, false, not, ◌&&◌, ◌||◌, ◌==◌, nat_le, List, [], ◌∷◌, ◌++◌, length}
 use Rattle.std.specs.List.{list_all}
 use Rattle.std.specs.Char.{is_ascii_alphabetic, is_ascii_alphanumeric}
 
@@ -27,3 +27,7 @@ is_long_text bytes = list_all is_text_byte bytes
 -- a text has at most 32 bytes
 abbrev pub is_text : List ℕ → Bool
 is_text bytes = is_long_text bytes && nat_le (length bytes) 32
+
+-- the bytes of a text between two `"`
+abbrev pub quoted : List ℕ → List ℕ
+quoted inner = 34 ∷ (inner ++ 34 ∷ [])

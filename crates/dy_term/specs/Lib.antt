@@ -1,2 +1,4 @@
 pub mod Characters
+pub mod Meaning
 pub mod Terms
+pub mod TermText
