@@ -2,9 +2,63 @@ use super::*;
 use std::alloc::Global;
 use std::test::*;
 
+/// The public-key protocol with Lowe's repair.
+const PROTOCOL: &[u8] = br#"dystar 1
+usage pke Dec(owner);
+usage nonce Rand();
+event Respond(name b, name a, nb);
+event Finish(name a, name b, nb) after Respond(b, a, nb) unless join(a, b);
+event Accept(name b, name a, nb) after Finish(a, b, nb) unless join(a, b);
+case Dec "m1"(na: secret join(a, owner), a: name);
+case Dec "m2"(na: upto join(owner, b), nb: secret join(owner, b), b: name) requires Respond(b, owner, nb);
+case Dec "m3"(nb: upto join(a, owner), a: name) requires Finish(a, owner, nb);
+state Key lasting (sk: key self Dec(self));
+state Init (na: secret join(self, b), b: name);
+state Resp (nb: secret join(self, a), a: name);
+handler Keygen args() {
+  new sk : Dec(self) secret self;
+  certify sk as Dec;
+  store Key(sk);
+}
+handler Init1 args(b) {
+  find Dec of b as pkb;
+  new na : Rand() secret join(self, b);
+  send penc(pkb using Dec(b), "m1"(na, self));
+  store Init(na, b);
+}
+handler Resp1 args() recv m {
+  use Key(sk);
+  popen m with sk using Dec(self) as "m1"(na, name a);
+  find Dec of a as pka;
+  new nb : Rand() secret join(self, a);
+  event Respond(self, a, nb);
+  send penc(pka using Dec(a), "m2"(na, nb, self));
+  store Resp(nb, a);
+}
+handler Init2 on Init(na, name b) args() recv m {
+  use Key(sk);
+  popen m with sk using Dec(self) as "m2"(=na, nb, =b);
+  event Finish(self, b, nb);
+  find Dec of b as pkb;
+  send penc(pkb using Dec(b), "m3"(nb, self));
+}
+handler Resp2 on Resp(nb, name a) args() recv m {
+  use Key(sk);
+  popen m with sk using Dec(self) as "m3"(=nb, =a);
+  event Accept(self, a, nb);
+}
+plan {
+  round { k1: alice Keygen(); k2: bob Keygen(); }
+  round { i: alice Init1(bob); }
+  round { r: bob Resp1() msg i.1; }
+  round { f: alice Init2() on i msg r.1; }
+  round { a: bob Resp2() on r msg f.1; }
+}
+"#;
+
 /// `lex`, at the short sources of these tests.
 fn lex_short<'a>(alloc: Global, source: &'a [u8]) -> Result<Vec<Token<'a>>, LexError> {
-    if source.len() > 100 {
+    if source.len() > 2000 {
         return Err(LexError::Memory);
     }
     lex(alloc, source)
@@ -95,5 +149,44 @@ fn a_fault_is_printed_with_its_line(rt: HostRuntime) -> Result<(), Fail> {
         format!(in rt.alloc(); "{fault}")?.as_str(),
         "line 7: no token begins here"
     );
+    Ok(())
+}
+
+/// How many of the tokens are of this kind.
+fn count(tokens: &[Token<'_>], kind: TokenKind) -> usize {
+    tokens.iter().filter(|token| token.kind == kind).count()
+}
+
+#[test]
+fn the_tokens_of_a_protocol_are_counted(rt: HostRuntime) -> Result<(), Fail> {
+    let tokens = lex_short(rt.alloc(), PROTOCOL)?;
+    assert_eq!(rt; count(&tokens, TokenKind::Word), 316);
+    assert_eq!(rt; count(&tokens, TokenKind::Symbol), 272);
+    assert_eq!(rt; count(&tokens, TokenKind::Text), 9);
+    assert_eq!(rt; count(&tokens, TokenKind::Number), 4);
+    let odd: [(&[u8], usize, u32); 13] = [
+        (b"1", 7, 1),
+        (b"\"m1\"", 246, 7),
+        (b"\"m2\"", 297, 8),
+        (b"\"m3\"", 404, 9),
+        (b"\"m1\"", 830, 21),
+        (b"\"m1\"", 952, 26),
+        (b"\"m2\"", 1094, 30),
+        (b"\"m2\"", 1240, 35),
+        (b"\"m3\"", 1342, 38),
+        (b"\"m3\"", 1463, 42),
+        (b"1", 1630, 48),
+        (b"1", 1673, 49),
+        (b"1", 1714, 50),
+    ];
+    let found = tokens.iter().filter(|token| matches!(
+        token.kind,
+        TokenKind::Text | TokenKind::Number
+    ));
+    for (token, (text, at, line)) in found.zip(odd) {
+        assert_eq!(rt; token.text, text);
+        assert_eq!(rt; token.at, at);
+        assert_eq!(rt; token.line, line, "the token at {at}");
+    }
     Ok(())
 }

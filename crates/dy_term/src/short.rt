@@ -1,4 +1,4 @@
-ghost use Rattle.std.specs.Prelude.{◌≡◌, ◌≤◌, length};
+ghost use Rattle.std.specs.Prelude.{◌≡◌, ◌↔◌, ◌<◌, ◌≤◌, [], ◌∷◌, ◌++◌, length, IfSome, IsSome};
 
 use std::marker::Model;
 
@@ -30,6 +30,22 @@ impl Short {
             bytes: kept,
             len: bytes.len(),
         }
+    }
+
+    /// These bytes and one more, if there is room.
+    pub(crate) fn with(&self, byte: u8) -> Option<Short>
+        ensures bytes { IfSome result (λ longer. longer ≡ self.now ++ byte ∷ []) }
+        ensures room { IsSome result ↔ (length self.now < 32) }
+    {
+        if self.len == 32 {
+            return None;
+        }
+        let mut bytes = self.bytes;
+        bytes[self.len] = byte;
+        Some(Short {
+            bytes,
+            len: self.len + 1,
+        })
     }
 
     pub(crate) fn copy(&self) -> Short

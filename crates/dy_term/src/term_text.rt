@@ -1,14 +1,15 @@
-ghost use Rattle.std.specs.Prelude.{◌≡◌, ◌++◌, List, ℕ, [], ◌∷◌, IfOk, codes};
+ghost use Rattle.std.specs.Prelude.{◌≡◌, ◌++◌, List, ℕ, [], ◌∷◌, true, IfOk, codes};
 ghost use Rattle.dy_term.specs.Meaning.{tree_of};
-ghost use Rattle.dy_term.specs.Characters.{quoted};
+ghost use Rattle.dy_term.specs.Characters.{is_text, quoted};
 ghost use Rattle.dy_term.specs.TermText.{term_text};
+ghost use Rattle.dy_term.specs.TermReading.{is_made, IsTextOf};
 
 use crate::{Memory, Term, Text};
 use std::alloc::{AllocError, Global};
 
 /// The text of a term. The one refusal is for want of memory.
 pub fn write_term(alloc: Global, term: &Term) -> Result<Vec<u8>, Memory>
-    ensures { IfOk result (λ text. text.items ≡ term_text (tree_of term.now)) }
+    ensures { IfOk result (λ text. IsTextOf (tree_of term.now) text.items) }
 {
     let mut text = Vec::new(alloc);
     match put_term(alloc, &mut text, term) {
@@ -20,7 +21,8 @@ pub fn write_term(alloc: Global, term: &Term) -> Result<Vec<u8>, Memory>
 /// Adds the text of a term.
 #[cycle(put)]
 fn put_term(alloc: Global, text: &mut Vec<u8>, term: &Term) -> Result<(), AllocError>
-    ensures { IfOk result (λ _. text.new.items ≡ text.old.items ++ term_text (tree_of term.now)) }
+    ensures text { IfOk result (λ _. text.new.items ≡ text.old.items ++ term_text (tree_of term.now)) }
+    ensures made { IfOk result (λ _. is_made (tree_of term.now) ≡ true) }
 {
     match term {
         Term::Lit(literal) => put_text(text, literal),
@@ -29,6 +31,7 @@ fn put_term(alloc: Global, text: &mut Vec<u8>, term: &Term) -> Result<(), AllocE
             text.extend_from_slice(principal.as_bytes())
         }
         Term::Nonce(index) => {
+            let index = *index;
             let number = format!(in alloc; "#{index}")?;
             text.extend_from_slice(number.as_bytes())
         }
@@ -62,7 +65,8 @@ fn put_term(alloc: Global, text: &mut Vec<u8>, term: &Term) -> Result<(), AllocE
 
 /// Adds a text between quotes.
 fn put_text(text: &mut Vec<u8>, literal: &Text) -> Result<(), AllocError>
-    ensures { IfOk result (λ _. text.new.items ≡ text.old.items ++ quoted literal.now) }
+    ensures text { IfOk result (λ _. text.new.items ≡ text.old.items ++ quoted literal.now) }
+    ensures made { IfOk result (λ _. is_text literal.now ≡ true) }
 {
     text.extend_from_slice(b"\"")?;
     text.extend_from_slice(literal.as_bytes())?;
@@ -72,7 +76,8 @@ fn put_text(text: &mut Vec<u8>, literal: &Text) -> Result<(), AllocError>
 /// Adds a constructor with one part.
 #[cycle(put)]
 fn put_one(alloc: Global, text: &mut Vec<u8>, front: &[u8], part: &Term) -> Result<(), AllocError>
-    ensures { IfOk result (λ _. text.new.items ≡ text.old.items ++ front.now ++ term_text (tree_of part.now) ++ codes ")") }
+    ensures text { IfOk result (λ _. text.new.items ≡ text.old.items ++ front.now ++ term_text (tree_of part.now) ++ codes ")") }
+    ensures made { IfOk result (λ _. is_made (tree_of part.now) ≡ true) }
 {
     text.extend_from_slice(front)?;
     put_term(alloc, text, part)?;
@@ -88,7 +93,8 @@ fn put_two(
     first: &Term,
     second: &Term,
 ) -> Result<(), AllocError>
-    ensures { IfOk result (λ _. text.new.items ≡ text.old.items ++ front.now ++ term_text (tree_of first.now) ++ codes ", " ++ term_text (tree_of second.now) ++ codes ")") }
+    ensures text { IfOk result (λ _. text.new.items ≡ text.old.items ++ front.now ++ term_text (tree_of first.now) ++ codes ", " ++ term_text (tree_of second.now) ++ codes ")") }
+    ensures made { IfOk result (λ _. (is_made (tree_of first.now) ≡ true) × (is_made (tree_of second.now) ≡ true)) }
 {
     text.extend_from_slice(front)?;
     put_term(alloc, text, first)?;

@@ -1,4 +1,4 @@
-ghost use Rattle.std.specs.Prelude.{◌≡◌, ◌↔◌, true, IsSome, IfSome};
+ghost use Rattle.std.specs.Prelude.{◌≡◌, ◌↔◌, true, [], ◌∷◌, ◌++◌, IsSome, IfSome};
 ghost use Rattle.std.specs.Str.{bytes_eq};
 ghost use Rattle.dy_term.specs.Characters.{is_text};
 
@@ -24,6 +24,14 @@ impl Model for Text {
 }
 
 impl Text {
+    pub(crate) fn empty() -> Text
+        ensures { result ≡ [] }
+    {
+        Text {
+            kept: Short::new(&[]),
+        }
+    }
+
     /// These bytes as a text, or `None` where they are none.
     pub fn new(bytes: &[u8]) -> Option<Text>
         ensures bytes { IfSome result (λ text. text ≡ bytes.now) }
@@ -36,6 +44,14 @@ impl Text {
         } else {
             None
         }
+    }
+
+    /// The text with this byte behind it, or `None` where that is none.
+    pub(crate) fn with(&self, byte: u8) -> Option<Text>
+        ensures bytes { IfSome result (λ longer. longer ≡ self.now ++ byte ∷ []) }
+        ensures found { IsSome result ↔ (is_text (self.now ++ byte ∷ []) ≡ true) }
+    {
+        Text::new(self.kept.with(byte)?.as_bytes())
     }
 
     pub fn as_bytes(&self) -> &[u8]

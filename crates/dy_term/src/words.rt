@@ -1,4 +1,4 @@
-ghost use Rattle.std.specs.Prelude.{◌≡◌, ◌↔◌, true, IsSome, IfSome};
+ghost use Rattle.std.specs.Prelude.{◌≡◌, ◌↔◌, true, [], ◌∷◌, ◌++◌, IsSome, IfSome};
 ghost use Rattle.std.specs.Str.{bytes_eq};
 ghost use Rattle.dy_term.specs.Characters.{is_word};
 
@@ -36,6 +36,14 @@ impl Word {
         } else {
             None
         }
+    }
+
+    /// The word with this byte behind it, or `None` where that is none.
+    pub(crate) fn with(&self, byte: u8) -> Option<Word>
+        ensures bytes { IfSome result (λ longer. longer ≡ self.now ++ byte ∷ []) }
+        ensures found { IsSome result ↔ (is_word (self.now ++ byte ∷ []) ≡ true) }
+    {
+        Word::new(self.kept.with(byte)?.as_bytes())
     }
 
     pub fn as_bytes(&self) -> &[u8]
