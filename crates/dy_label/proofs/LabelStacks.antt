@@ -1,0 +1,41 @@
+-- Runs one behind the other: a leaf is put behind them, or the node of the last two.
+use Rattle.std.proofs.Common.{◌≡◌, ℕ, ◌+◌, ◌≤◌, true, List, [], ◌∷◌, ◌++◌, length, ap, append_assoc, arith}
+use Rattle.dy_label.specs.Labels as labels
+use Rattle.dy_label.specs.Labels.{Label, with_last_two}
+use Rattle.dy_label.specs.LabelRuns.{Node, Public, Nobody, One, Join, Meet, run_of, runs_of, behind, is_leaf, EndsWithTwoRuns, CountsTwoRuns}
+
+pub leaf_behind : (nodes : List Node) (before : List Label) (leaf : Node) → nodes ≡ runs_of before → is_leaf leaf ≡ true → nodes ++ leaf ∷ [] ≡ runs_of (behind before leaf)
+leaf_behind nodes before Public e is = ap (λ r. r ++ Public ∷ []) e
+leaf_behind nodes before Nobody e is = ap (λ r. r ++ Nobody ∷ []) e
+leaf_behind nodes before (One reader) e is = ap (λ r. r ++ One reader ∷ []) e
+leaf_behind nodes before (Join n) e is = cc
+leaf_behind nodes before (Meet n) e is = cc
+
+pub length-leaf_behind : (before : List Label) (leaf : Node) → is_leaf leaf ≡ true → length (behind before leaf) ≡ length before + 1
+length-leaf_behind before Public is = omega arith
+length-leaf_behind before Nobody is = omega arith
+length-leaf_behind before (One reader) is = omega arith
+length-leaf_behind before (Join n) is = cc
+length-leaf_behind before (Meet n) is = cc
+
+-- where two labels are, two runs stand at the end
+pub two_at_end : (nodes : List Node) (some : List Label) → nodes ≡ runs_of some → 2 ≤ length some
+    → EndsWithTwoRuns nodes
+two_at_end nodes [] e two = absurd (omega arith)
+two_at_end nodes (only ∷ []) e two = absurd (omega arith)
+two_at_end nodes (second ∷ first ∷ before) e two = (runs_of before, first, second, e)
+
+pub length-with_last_two : (whole : Label → Label → Label) (some : List Label) → 2 ≤ length some → length (with_last_two whole some) + 1 ≡ length some
+length-with_last_two whole [] two = absurd (omega arith)
+length-with_last_two whole (only ∷ []) two = absurd (omega arith)
+length-with_last_two whole (second ∷ first ∷ before) two = omega arith
+
+pub join_behind : (nodes : List Node) (some : List Label) (n : ℕ) → nodes ≡ runs_of some → 2 ≤ length some → CountsTwoRuns nodes n → nodes ++ Join n ∷ [] ≡ runs_of (with_last_two labels.Join some)
+join_behind nodes [] n e two counts = absurd (omega arith)
+join_behind nodes (only ∷ []) n e two counts = absurd (omega arith)
+join_behind nodes (second ∷ first ∷ before) n e two counts = rw (counts (runs_of before) first second e, e, append_assoc (runs_of before) (run_of first) (run_of second)) (append_assoc (runs_of before) (run_of first ++ run_of second) _)
+
+pub meet_behind : (nodes : List Node) (some : List Label) (n : ℕ) → nodes ≡ runs_of some → 2 ≤ length some → CountsTwoRuns nodes n → nodes ++ Meet n ∷ [] ≡ runs_of (with_last_two labels.Meet some)
+meet_behind nodes [] n e two counts = absurd (omega arith)
+meet_behind nodes (only ∷ []) n e two counts = absurd (omega arith)
+meet_behind nodes (second ∷ first ∷ before) n e two counts = rw (counts (runs_of before) first second e, e, append_assoc (runs_of before) (run_of first) (run_of second)) (append_assoc (runs_of before) (run_of first ++ run_of second) _)

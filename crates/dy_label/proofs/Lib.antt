@@ -1,0 +1,11 @@
+pub mod Implication
+pub mod LabelParts
+pub mod LabelRuns
+pub mod LabelStacks
+pub mod LabelsOpen
+pub mod Mapped
+pub mod RowBits
+pub mod RowsOfWords
+pub mod WordsLaw
+pub mod WordsOpen
+pub mod WordsVersions

@@ -1,0 +1,9 @@
+pub mod Labels
+pub mod LabelCodes
+pub mod LabelRuns
+pub mod LabelsMeaning
+pub mod NodesMeaning
+pub mod ShapesMeaning
+pub mod Tables
+pub mod Words
+pub mod WordsMeaning

@@ -1,0 +1,113 @@
+ghost use Rattle.std.specs.Prelude.{◌≡◌, ◌≢◌, ◌++◌, [], ◌∷◌, true, false, map, OnErr, OnOk};
+ghost use Rattle.dy_label.specs.LabelRuns.{run_length, EndsWithRun, EndsWithTwoRuns, SplitsLastRun, CountsTwoRuns};
+ghost use Rattle.dy_label.specs.NodesMeaning.{node_of};
+
+use crate::readers::Reader;
+use dy_term::Memory;
+
+/// A node of a label. One with two parts has the number of nodes of its whole run, itself
+/// counted.
+#[derive(Debug, Drop)]
+pub(crate) enum Node {
+    Public,
+    Nobody,
+    One(Reader),
+    Join(usize),
+    Meet(usize),
+}
+
+impl Node {
+    fn same(&self, other: &Node) -> bool
+        ensures same { result ≡ true → node_of self.now ≡ node_of other.now }
+        ensures other { result ≡ false → node_of self.now ≢ node_of other.now }
+    {
+        match (self, other) {
+            (Node::Public, Node::Public) | (Node::Nobody, Node::Nobody) => true,
+            (Node::One(reader), Node::One(other)) => reader.same(other),
+            (Node::Join(m), Node::Join(n)) | (Node::Meet(m), Node::Meet(n)) => m == n,
+            _ => false,
+        }
+    }
+
+    pub(crate) fn copy(&self) -> Node
+        ensures { result ≡ self.now }
+    {
+        match self {
+            Node::Public => Node::Public,
+            Node::Nobody => Node::Nobody,
+            Node::One(reader) => Node::One(reader.copy()),
+            Node::Join(nodes) => Node::Join(*nodes),
+            Node::Meet(nodes) => Node::Meet(*nodes),
+        }
+    }
+
+    /// How many nodes the run has that ends with this one.
+    fn run_length(&self) -> usize
+        ensures { result ≡ run_length (node_of self.now) }
+    {
+        match self {
+            Node::Join(nodes) | Node::Meet(nodes) => *nodes,
+            _ => 1,
+        }
+    }
+}
+
+/// Whether the two runs are the same, node by node.
+pub(crate) fn same_nodes(first: &[Node], second: &[Node]) -> bool
+    ensures same { result ≡ true → map node_of first.now ≡ map node_of second.now }
+    ensures other { result ≡ false → map node_of first.now ≢ map node_of second.now }
+{
+    if first.len() != second.len() {
+        return false;
+    }
+    for i in 0..first.len() {
+        if !first[i].same(&second[i]) {
+            return false;
+        }
+    }
+    true
+}
+
+/// Adds a node, or leaves the nodes as they were where memory is wanting.
+pub(crate) fn push(nodes: &mut Vec<Node>, node: Node) -> Result<(), Memory>
+    ensures ok { OnOk result (nodes.new.items ≡ nodes.old.items ++ node ∷ []) }
+    ensures err { OnErr result (nodes.new.items ≡ nodes.old.items) }
+{
+    match nodes.push(node) {
+        Ok(()) => Ok(()),
+        Err(_) => Err(Memory),
+    }
+}
+
+/// Moves nodes to the end, or answers that memory is wanting.
+pub(crate) fn append(nodes: &mut Vec<Node>, more: Vec<Node>) -> Result<(), Memory>
+    ensures ok { OnOk result (nodes.new.items ≡ nodes.old.items ++ more.items) }
+    ensures err { OnErr result (nodes.new.items ≡ nodes.old.items) }
+{
+    let mut more = more;
+    match nodes.append(&mut more) {
+        Ok(()) => Ok(()),
+        Err(_) => Err(Memory),
+    }
+}
+
+/// The nodes before the last run, and the last run.
+pub(crate) fn split_last_run(nodes: &[Node]) -> (&[Node], &[Node])
+    requires { EndsWithRun (map node_of nodes.now) }
+    ensures { SplitsLastRun (map node_of nodes.now) (map node_of result.0.now) (map node_of result.1.now) }
+{
+    match nodes.split_last() {
+        Some((last, _)) => nodes.split_at(nodes.len() - last.run_length()),
+        None => unreachable!(),
+    }
+}
+
+/// How many nodes the run has that the node of the last two labels ends.
+pub(crate) fn length_of_two(nodes: &[Node]) -> usize
+    requires { EndsWithTwoRuns (map node_of nodes.now) }
+    ensures { CountsTwoRuns (map node_of nodes.now) result }
+{
+    let (rest, second) = split_last_run(nodes);
+    let (_, first) = split_last_run(rest);
+    first.len() + second.len() + 1
+}
