@@ -1,0 +1,100 @@
+use crate::{ROUNDS, Times, wanting};
+use dy_flat::{FlatTerm, View, first, lit, nonce, pair, pk, second};
+use dy_term::{Memory, Text};
+use std::alloc::Global;
+use std::io;
+use std::time::Instant;
+
+/// A nonce, or at odd numbers a literal. The one of number 0 has a key around it, so that the nodes are 1,024.
+fn leaf(alloc: Global, number: u32) -> Result<FlatTerm, Memory> {
+    if number % 2 == 1 {
+        let text: &[u8] = if number % 4 == 1 { b"m1" } else { b"m2" };
+        if let Some(text) = Text::new(text) {
+            return lit(alloc, &text);
+        }
+    }
+    let inner = nonce(alloc, number)?;
+    if number == 0 {
+        pk(alloc, inner.whole())
+    } else {
+        Ok(inner)
+    }
+}
+
+/// The pairs of neighbours. Of an odd number the last is left out.
+fn pairs(alloc: Global, level: &[FlatTerm]) -> Result<Vec<FlatTerm>, Memory> {
+    let mut made = Vec::new(alloc);
+    for two in level.chunks_exact(2) {
+        if let [a, b] = two {
+            let both = pair(alloc, a.whole(), b.whole())?;
+            if made.push(both).is_err() {
+                return Err(Memory);
+            }
+        }
+    }
+    Ok(made)
+}
+
+/// 512 leaves in pairs of pairs.
+fn built(alloc: Global) -> Result<FlatTerm, Memory> {
+    let mut level = Vec::new(alloc);
+    for number in 0..512 {
+        if level.push(leaf(alloc, number)?).is_err() {
+            return Err(Memory);
+        }
+    }
+    for _ in 0..9 {
+        level = pairs(alloc, &level)?;
+    }
+    match level.pop() {
+        Some(term) => Ok(term),
+        None => Err(Memory),
+    }
+}
+
+/// How many parts a term has that are no pairs, by going through it.
+fn leaves(alloc: Global, term: View) -> Result<u32, Memory> {
+    let mut found = 0u32;
+    let mut rest = Vec::new(alloc);
+    let mut next = Some(term);
+    for _ in 0..1024 {
+        let Some(term) = next else {
+            break;
+        };
+        match (first(term), second(term)) {
+            (Some(front), Some(back)) => {
+                if rest.push(back).is_err() {
+                    return Err(Memory);
+                }
+                next = Some(front);
+            }
+            _ => {
+                found = found.saturating_add(1);
+                next = rest.pop();
+            }
+        }
+    }
+    Ok(found)
+}
+
+pub(crate) fn measured(rt: &HostRuntime) -> io::Result<Times> {
+    let start = Instant::now(rt)?;
+    let mut term = built(rt.alloc()).map_err(wanting)?;
+    for _ in 1..ROUNDS {
+        term = built(rt.alloc()).map_err(wanting)?;
+    }
+    let building = start.elapsed(rt)?;
+    let start = Instant::now(rt)?;
+    let mut found = 0u64;
+    let whole = term.whole();
+    for _ in 0..ROUNDS {
+        let once = leaves(rt.alloc(), whole).map_err(wanting)?;
+        found = found.saturating_add(u64::from(once));
+    }
+    let parting = start.elapsed(rt)?;
+    Ok(Times {
+        building,
+        parting,
+        found,
+    })
+}

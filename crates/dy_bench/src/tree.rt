@@ -1,0 +1,120 @@
+use crate::{ROUNDS, Times, wanting};
+use dy_term::{Memory, Term, Text};
+use std::alloc::Global;
+use std::io;
+use std::time::Instant;
+
+fn boxed(alloc: Global, term: Term) -> Result<Box<Term>, Memory> {
+    match Box::new(alloc, term) {
+        Ok(made) => Ok(made),
+        Err(_) => Err(Memory),
+    }
+}
+
+/// A nonce, or at odd numbers a literal. The one of number 0 has a key around it, so that the nodes are 1,024.
+fn leaf(alloc: Global, number: u32) -> Result<Term, Memory> {
+    if number % 2 == 1 {
+        let text: &[u8] = if number % 4 == 1 { b"m1" } else { b"m2" };
+        if let Some(text) = Text::new(text) {
+            return Ok(Term::Lit(text));
+        }
+    }
+    if number == 0 {
+        Ok(Term::Pk(boxed(alloc, Term::Nonce(number))?))
+    } else {
+        Ok(Term::Nonce(number))
+    }
+}
+
+/// A copy of a term that is made of pairs, keys, nonces and literals. Others are copied as the nonce 0.
+fn copy(alloc: Global, term: &Term) -> Result<Term, Memory> {
+    match term {
+        Term::Lit(text) => Ok(Term::Lit(text.copy())),
+        Term::Nonce(index) => Ok(Term::Nonce(*index)),
+        Term::Pk(key) => Ok(Term::Pk(boxed(alloc, copy(alloc, key)?)?)),
+        Term::Pair(first, second) => {
+            let first = boxed(alloc, copy(alloc, first)?)?;
+            let second = boxed(alloc, copy(alloc, second)?)?;
+            Ok(Term::Pair(first, second))
+        }
+        _ => Ok(Term::Nonce(0)),
+    }
+}
+
+/// The pairs of neighbours, which are copied since they stay. Of an odd number the last is left out.
+fn pairs(alloc: Global, level: &[Term]) -> Result<Vec<Term>, Memory> {
+    let mut made = Vec::new(alloc);
+    for two in level.chunks_exact(2) {
+        if let [a, b] = two {
+            let a = boxed(alloc, copy(alloc, a)?)?;
+            let b = boxed(alloc, copy(alloc, b)?)?;
+            if made.push(Term::Pair(a, b)).is_err() {
+                return Err(Memory);
+            }
+        }
+    }
+    Ok(made)
+}
+
+/// 512 leaves in pairs of pairs.
+fn built(alloc: Global) -> Result<Term, Memory> {
+    let mut level = Vec::new(alloc);
+    for number in 0..512 {
+        if level.push(leaf(alloc, number)?).is_err() {
+            return Err(Memory);
+        }
+    }
+    for _ in 0..9 {
+        level = pairs(alloc, &level)?;
+    }
+    match level.pop() {
+        Some(term) => Ok(term),
+        None => Err(Memory),
+    }
+}
+
+/// How many parts a term has that are no pairs, by going through it.
+fn leaves(alloc: Global, term: &Term) -> Result<u32, Memory> {
+    let mut found = 0u32;
+    let mut rest: Vec<&Term> = Vec::new(alloc);
+    let mut next = Some(term);
+    for _ in 0..1024 {
+        let Some(term) = next else {
+            break;
+        };
+        match term {
+            Term::Pair(front, back) => {
+                if rest.push(back).is_err() {
+                    return Err(Memory);
+                }
+                next = Some(front);
+            }
+            _ => {
+                found = found.saturating_add(1);
+                next = rest.pop();
+            }
+        }
+    }
+    Ok(found)
+}
+
+pub(crate) fn measured(rt: &HostRuntime) -> io::Result<Times> {
+    let start = Instant::now(rt)?;
+    let mut term = built(rt.alloc()).map_err(wanting)?;
+    for _ in 1..ROUNDS {
+        term = built(rt.alloc()).map_err(wanting)?;
+    }
+    let building = start.elapsed(rt)?;
+    let start = Instant::now(rt)?;
+    let mut found = 0u64;
+    for _ in 0..ROUNDS {
+        let once = leaves(rt.alloc(), &term).map_err(wanting)?;
+        found = found.saturating_add(u64::from(once));
+    }
+    let parting = start.elapsed(rt)?;
+    Ok(Times {
+        building,
+        parting,
+        found,
+    })
+}

@@ -1,0 +1,10 @@
+pub mod Codes
+pub mod Differing
+pub mod Growth
+pub mod Meaning
+pub mod PartMeaning
+pub mod Parts
+pub mod Runs
+pub mod ShapeMeaning
+pub mod Shapes
+pub mod Views

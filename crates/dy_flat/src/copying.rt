@@ -1,0 +1,43 @@
+ghost use Rattle.std.specs.Prelude.{◌≡◌, ◌∷◌, [], ◌++◌, IfOk, IsSome, Some, map};
+ghost use Rattle.dy_flat.specs.Meaning.{read};
+ghost use Rattle.dy_flat.specs.Runs.{run_of};
+ghost use Rattle.dy_flat.specs.Views.{tree_of};
+
+use crate::contents::Contents;
+use crate::flat_nodes::Node;
+use crate::runs::Run;
+use crate::views::View;
+use dy_term::Memory;
+
+impl Run {
+    /// Adds a node of other contents.
+    fn push_copied(&mut self, node: Node, contents: &Contents) -> Result<(), Memory>
+        requires { IsSome (read contents.now node) }
+        ensures { IfOk result (λ _. map Some self.new ≡ map Some self.old ++ read contents.now node ∷ []) }
+    {
+        match node {
+            Node::Lit(place) => self.push_lit(contents.text(place)),
+            Node::Name(place) => self.push_name(contents.name(place)),
+            Node::Kdf(place) => self.push_kdf(contents.text(place)),
+            Node::Nonce(_)
+            | Node::Pair(_)
+            | Node::Pk
+            | Node::Vk
+            | Node::Penc(_)
+            | Node::Aead(_)
+            | Node::Sign(_)
+            | Node::Mac(_)
+            | Node::Hash => self.push(node),
+        }
+    }
+
+    /// Adds the nodes of a term.
+    pub(crate) fn push_view(&mut self, view: View) -> Result<(), Memory>
+        ensures { IfOk result (λ _. self.new ≡ self.old ++ run_of (tree_of view.entry)) }
+    {
+        for node in view.nodes {
+            self.push_copied(*node, view.contents)?;
+        }
+        Ok(())
+    }
+}

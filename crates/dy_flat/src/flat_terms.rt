@@ -1,0 +1,64 @@
+use crate::runs::Run;
+use crate::views::View;
+use dy_term::Memory;
+use std::alloc::Global;
+use std::marker::Model;
+
+/// A term, as the run of its nodes in preorder, with each of its texts and names once. Contracts see the tree.
+///
+/// A term of n nodes takes 8 n bytes and 40 for each different text and name, beside 72 of its own. `from_tree` may
+/// keep as much again free. A number of nodes before a part, of texts or of names that is 2^32 or more does not fit:
+/// what would make such a term answers `Memory`. Only `from_tree` and `to_tree` are recursive, as deep as the term.
+#[derive(Debug, Drop)]
+pub struct FlatTerm {
+    run: Run,
+}
+
+impl Model for FlatTerm {
+    ghost use Rattle.dy_term.specs.Terms.{Term};
+    ghost use Rattle.dy_flat.specs.Codes.{term_code};
+
+    ghost Value = { Term };
+
+    ghost coded = { term_code };
+
+    ghost use Rattle.dy_flat.specs.Runs.{term_of, IsRun};
+
+    ghost view = { λ t. term_of t.run };
+
+    ghost invariant = { λ t. IsRun t.run };
+}
+
+impl FlatTerm {
+    ghost use Rattle.std.specs.Prelude.{◌≡◌, IfOk};
+    ghost use Rattle.dy_flat.specs.Runs.{IsRun, term_of};
+    ghost use Rattle.dy_flat.specs.Views.{tree_of};
+
+    /// The run of a whole term, as that term.
+    pub(crate) fn of_run(run: Run) -> FlatTerm
+        requires { IsRun run }
+        ensures { result ≡ term_of run }
+    {
+        FlatTerm { run }
+    }
+
+    /// Lends the whole term.
+    pub fn whole(&self) -> View<'_>
+        ensures { tree_of result ≡ self.now }
+    {
+        let run = &self.run;
+        View {
+            nodes: run.nodes.as_slice(),
+            contents: &run.contents,
+        }
+    }
+
+    /// An equal term, in memory of its own. The one refusal is for want of memory.
+    pub fn copy(&self, alloc: Global) -> Result<FlatTerm, Memory>
+        ensures { IfOk result (λ made. made ≡ self.now) }
+    {
+        let mut run = Run::with_room(alloc, self.run.len())?;
+        run.push_view(self.whole())?;
+        Ok(FlatTerm::of_run(run))
+    }
+}
