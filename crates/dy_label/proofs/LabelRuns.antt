@@ -7,7 +7,8 @@ use Rattle.dy_label.specs.Labels.{Label}
 use Rattle.dy_label.specs.LabelRuns.{Node, run_of, runs_of, labels_from, labels_in, label_in, run_length, last_node, nodes_of_parts, IsRun, AreRuns}
 use Rattle.dy_label.specs.LabelCodes.{label_in-run_of, labels_from-run_of}
 
-labels_from-runs_of : (before : List Label) (nodes : List Node) → labels_from [] (runs_of before ++ nodes) ≡ labels_from before nodes
+-- runs stand for their labels, and what follows is read behind them
+pub labels_from-runs_of : (before : List Label) (nodes : List Node) → labels_from [] (runs_of before ++ nodes) ≡ labels_from before nodes
 labels_from-runs_of [] nodes = refl
 labels_from-runs_of (label ∷ before) nodes =
     ap (labels_from []) (append_assoc (runs_of before) (run_of label) nodes) ∙ labels_from-runs_of before (run_of label ++ nodes) ∙ labels_from-run_of before label nodes

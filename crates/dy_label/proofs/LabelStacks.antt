@@ -1,8 +1,10 @@
 -- Runs one behind the other: a leaf is put behind them, or the node of the last two.
 use Rattle.std.proofs.Common.{◌≡◌, ℕ, ◌+◌, ◌≤◌, true, List, [], ◌∷◌, ◌++◌, length, ap, append_assoc, arith}
-use Rattle.dy_label.specs.Labels as labels
+use Rattle.dy_label.specs.declared.label_nodes.Whole.{Whole}
 use Rattle.dy_label.specs.Labels.{Label, with_last_two}
 use Rattle.dy_label.specs.LabelRuns.{Node, Public, Nobody, One, Join, Meet, run_of, runs_of, behind, is_leaf, EndsWithTwoRuns, CountsTwoRuns}
+use Rattle.dy_label.specs.NodesMeaning.{whole_of, whole_node}
+use Rattle.dy_label.proofs.LabelParts.{run_of-whole}
 
 pub leaf_behind : (nodes : List Node) (before : List Label) (leaf : Node) → nodes ≡ runs_of before → is_leaf leaf ≡ true → nodes ++ leaf ∷ [] ≡ runs_of (behind before leaf)
 leaf_behind nodes before Public e is = ap (λ r. r ++ Public ∷ []) e
@@ -30,12 +32,9 @@ length-with_last_two whole [] two = absurd (omega arith)
 length-with_last_two whole (only ∷ []) two = absurd (omega arith)
 length-with_last_two whole (second ∷ first ∷ before) two = omega arith
 
-pub join_behind : (nodes : List Node) (some : List Label) (n : ℕ) → nodes ≡ runs_of some → 2 ≤ length some → CountsTwoRuns nodes n → nodes ++ Join n ∷ [] ≡ runs_of (with_last_two labels.Join some)
-join_behind nodes [] n e two counts = absurd (omega arith)
-join_behind nodes (only ∷ []) n e two counts = absurd (omega arith)
-join_behind nodes (second ∷ first ∷ before) n e two counts = rw (counts (runs_of before) first second e, e, append_assoc (runs_of before) (run_of first) (run_of second)) (append_assoc (runs_of before) (run_of first ++ run_of second) _)
-
-pub meet_behind : (nodes : List Node) (some : List Label) (n : ℕ) → nodes ≡ runs_of some → 2 ≤ length some → CountsTwoRuns nodes n → nodes ++ Meet n ∷ [] ≡ runs_of (with_last_two labels.Meet some)
-meet_behind nodes [] n e two counts = absurd (omega arith)
-meet_behind nodes (only ∷ []) n e two counts = absurd (omega arith)
-meet_behind nodes (second ∷ first ∷ before) n e two counts = rw (counts (runs_of before) first second e, e, append_assoc (runs_of before) (run_of first) (run_of second)) (append_assoc (runs_of before) (run_of first ++ run_of second) _)
+-- the last node of a whole, behind the runs of its parts, makes the last two labels the whole
+pub whole_behind : (whole : Whole) (nodes : List Node) (some : List Label) (n : ℕ) → nodes ≡ runs_of some → 2 ≤ length some → CountsTwoRuns nodes n → nodes ++ whole_node whole n ∷ [] ≡ runs_of (with_last_two (whole_of whole) some)
+whole_behind whole nodes [] n e two counts = absurd (omega arith)
+whole_behind whole nodes (only ∷ []) n e two counts = absurd (omega arith)
+whole_behind whole nodes (second ∷ first ∷ before) n e two counts =
+    rw (run_of-whole whole first second, counts (runs_of before) first second e, e, append_assoc (runs_of before) (run_of first) (run_of second)) (append_assoc (runs_of before) (run_of first ++ run_of second) _)

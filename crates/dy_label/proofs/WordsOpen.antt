@@ -1,5 +1,5 @@
 -- A label over a handler's words is open as its words are.
-use Rattle.std.proofs.Common.{◌≡◌, ℕ, ◌+◌, ◌≤◌, Bool, true, List, refl, arith, inl, inr}
+use Rattle.std.proofs.Common.{◌≡◌, ℕ, ◌+◌, ◌≤◌, Bool, true, ◌&&◌, List, refl, arith, inl, inr}
 use Rattle.std.proofs.lemmas.Bool.{and_parts, and_from, or_cases, or_left, or_right, lt-ltb, ltb-true}
 use Rattle.dy_label.specs.Labels.{Place, Public, Nobody, One, Join, Meet, is_open_where, is_open, is_open_to}
 use Rattle.dy_label.specs.Words.{Atom, Name, ThisSession, Next, Prior, StaticLabel, Choice, place_of, meant, is_below, uses_names_below}
@@ -65,24 +65,20 @@ word_limit ThisSession = (0, refl)
 word_limit Next = (0, refl)
 word_limit Prior = (0, refl)
 
+-- One number is a limit for the names of two labels where each has a limit.
+common_limit : (l m : StaticLabel) → (names : ℕ) × (uses_names_below names l ≡ true) → (names : ℕ) × (uses_names_below names m ≡ true)
+    → (names : ℕ) × ((uses_names_below names l && uses_names_below names m) ≡ true)
+common_limit l m in_l in_m =
+    let names = in_l.0 + in_m.0 in (
+      names,
+      and_from (uses_names_below names l) (uses_names_below names m)
+          (uses_names_below-more in_l.0 names (omega arith) l in_l.1) (uses_names_below-more in_m.0 names (omega arith) m in_m.1),
+    )
+
 -- The names of a label are below some number.
 pub name_limit : (label : StaticLabel) → (names : ℕ) × (uses_names_below names label ≡ true)
 name_limit Public = (0, refl)
 name_limit Nobody = (0, refl)
 name_limit (One atom) = word_limit atom
-name_limit (Join l m) =
-    let in_l = name_limit l in
-    let in_m = name_limit m in
-    let names = in_l.0 + in_m.0 in (
-      names,
-      and_from (uses_names_below names l) (uses_names_below names m)
-          (uses_names_below-more in_l.0 names (omega arith) l in_l.1) (uses_names_below-more in_m.0 names (omega arith) m in_m.1),
-    )
-name_limit (Meet l m) =
-    let in_l = name_limit l in
-    let in_m = name_limit m in
-    let names = in_l.0 + in_m.0 in (
-      names,
-      and_from (uses_names_below names l) (uses_names_below names m)
-          (uses_names_below-more in_l.0 names (omega arith) l in_l.1) (uses_names_below-more in_m.0 names (omega arith) m in_m.1),
-    )
+name_limit (Join l m) = common_limit l m (name_limit l) (name_limit m)
+name_limit (Meet l m) = common_limit l m (name_limit l) (name_limit m)

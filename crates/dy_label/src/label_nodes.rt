@@ -1,6 +1,6 @@
 ghost use Rattle.std.specs.Prelude.{◌≡◌, ◌≢◌, ◌++◌, [], ◌∷◌, true, false, map, OnErr, OnOk};
 ghost use Rattle.dy_label.specs.LabelRuns.{run_length, EndsWithRun, EndsWithTwoRuns, SplitsLastRun, CountsTwoRuns};
-ghost use Rattle.dy_label.specs.NodesMeaning.{node_of};
+ghost use Rattle.dy_label.specs.NodesMeaning.{node_of, whole_node};
 
 use crate::readers::Reader;
 use dy_term::Memory;
@@ -14,6 +14,25 @@ pub(crate) enum Node {
     One(Reader),
     Join(usize),
     Meet(usize),
+}
+
+/// The two kinds of label that have parts.
+#[derive(Clone, Copy)]
+pub(crate) enum Whole {
+    Join,
+    Meet,
+}
+
+impl Whole {
+    /// The node that ends a run of so many nodes, itself counted.
+    pub(crate) fn node(self, nodes: usize) -> Node
+        ensures { node_of result ≡ whole_node self nodes }
+    {
+        match self {
+            Whole::Join => Node::Join(nodes),
+            Whole::Meet => Node::Meet(nodes),
+        }
+    }
 }
 
 impl Node {

@@ -2,9 +2,9 @@ ghost use Rattle.std.specs.Prelude.{◌≡◌, ◌≤◌, ◌↔◌, true, map, 
 ghost use Rattle.dy_label.specs.Labels as labels;
 ghost use Rattle.dy_label.specs.LabelRuns.{behind, is_leaf};
 ghost use Rattle.dy_label.specs.LabelsMeaning.{place_of_reader};
-ghost use Rattle.dy_label.specs.NodesMeaning.{node_of};
+ghost use Rattle.dy_label.specs.NodesMeaning.{node_of, whole_of};
 
-use crate::label_nodes::{Node, length_of_two, push};
+use crate::label_nodes::{Node, Whole, length_of_two, push};
 use crate::labels::Label;
 use crate::readers::Reader;
 use dy_term::Memory;
@@ -99,10 +99,7 @@ impl LabelStack {
         ensures ok { OnOk result (self.new ≡ labels.with_last_two labels.Join self.old) }
         ensures err { OnErr result (self.new ≡ self.old) }
     {
-        let length = length_of_two(&self.nodes);
-        push(&mut self.nodes, Node::Join(length))?;
-        self.count -= 1;
-        Ok(())
+        self.push_whole(Whole::Join)
     }
 
     /// Puts a meet in the place of the last two labels, which must be there.
@@ -111,8 +108,16 @@ impl LabelStack {
         ensures ok { OnOk result (self.new ≡ labels.with_last_two labels.Meet self.old) }
         ensures err { OnErr result (self.new ≡ self.old) }
     {
+        self.push_whole(Whole::Meet)
+    }
+
+    fn push_whole(&mut self, whole: Whole) -> Result<(), Memory>
+        requires { 2 ≤ length self.old }
+        ensures ok { OnOk result (self.new ≡ labels.with_last_two (whole_of whole) self.old) }
+        ensures err { OnErr result (self.new ≡ self.old) }
+    {
         let length = length_of_two(&self.nodes);
-        push(&mut self.nodes, Node::Meet(length))?;
+        push(&mut self.nodes, whole.node(length))?;
         self.count -= 1;
         Ok(())
     }

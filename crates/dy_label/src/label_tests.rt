@@ -1,5 +1,5 @@
 use super::*;
-use dy_term::Word;
+use dy_term::{Memory, Word};
 use sqlite_items::Items;
 use std::alloc::Global;
 use std::process::Abort;
@@ -123,24 +123,34 @@ fn labels_are_the_same_by_their_parts(rt: HostRuntime) -> Result<(), Fail> {
     Ok(())
 }
 
+/// Adds the part that has no say at this level: a closed label for a join, an open one for a meet.
+fn push_idle(stack: &mut LabelStack, level: u32) -> Result<(), Memory> {
+    if level % 2 == 0 {
+        stack.push_nobody()
+    } else {
+        stack.push_public()
+    }
+}
+
+/// Puts the whole of this level in the place of the last two labels, where two are there.
+fn put_together(stack: &mut LabelStack, level: u32) -> Result<(), Memory> {
+    if stack.len() < 2 {
+        Ok(())
+    } else if level % 2 == 0 {
+        stack.join()
+    } else {
+        stack.meet()
+    }
+}
+
 /// Labels of so many levels. The deepest part is this reader; the join of a closed label or the
 /// meet of an open one stands at each level, so that the whole is open where the reader is.
 fn nested_to_the_left(alloc: Global, levels: u32, reader: Reader) -> Result<Label, Fail> {
     let mut stack = LabelStack::new(alloc);
     stack.push_reader(reader)?;
     for level in 0..levels {
-        if level % 2 == 0 {
-            stack.push_nobody()?;
-        } else {
-            stack.push_public()?;
-        }
-        if stack.len() >= 2 {
-            if level % 2 == 0 {
-                stack.join()?;
-            } else {
-                stack.meet()?;
-            }
-        }
+        push_idle(&mut stack, level)?;
+        put_together(&mut stack, level)?;
     }
     finished(stack)
 }
@@ -148,21 +158,11 @@ fn nested_to_the_left(alloc: Global, levels: u32, reader: Reader) -> Result<Labe
 fn nested_to_the_right(alloc: Global, levels: u32, reader: Reader) -> Result<Label, Fail> {
     let mut stack = LabelStack::new(alloc);
     for level in 0..levels {
-        if level % 2 == 0 {
-            stack.push_nobody()?;
-        } else {
-            stack.push_public()?;
-        }
+        push_idle(&mut stack, level)?;
     }
     stack.push_reader(reader)?;
     for level in (0..levels).rev() {
-        if stack.len() >= 2 {
-            if level % 2 == 0 {
-                stack.join()?;
-            } else {
-                stack.meet()?;
-            }
-        }
+        put_together(&mut stack, level)?;
     }
     finished(stack)
 }

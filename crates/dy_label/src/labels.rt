@@ -2,10 +2,10 @@ ghost use Rattle.std.specs.Prelude.{◌≡◌, ◌≢◌, ◌⊎◌, ◌++◌, t
 ghost use Rattle.dy_label.specs.Labels as labels;
 ghost use Rattle.dy_label.specs.LabelRuns.{run_of, last_node, nodes_of_parts, IsRun, AreTwoRuns, label_in};
 ghost use Rattle.dy_label.specs.LabelsMeaning.{place_of_reader, place_of_corruption};
-ghost use Rattle.dy_label.specs.NodesMeaning.{node_of};
+ghost use Rattle.dy_label.specs.NodesMeaning.{node_of, whole_of};
 ghost use Rattle.dy_label.specs.ShapesMeaning.{label_of_shape};
 
-use crate::label_nodes::{Node, append, push, same_nodes, split_last_run};
+use crate::label_nodes::{Node, Whole, append, push, same_nodes, split_last_run};
 use crate::readers::{Corruption, Reader, is_open_to};
 use dy_term::Memory;
 use std::alloc::Global;
@@ -101,10 +101,7 @@ impl Label {
     pub fn join(self, second: Label) -> Result<Label, Memory>
         ensures { IfOk result (λ label. label ≡ labels.Join self second) }
     {
-        let mut nodes = parts(self, second)?;
-        let length = nodes.len() + 1;
-        push(&mut nodes, Node::Join(length))?;
-        Ok(Label { nodes })
+        made_of(Whole::Join, self, second)
     }
 
     /// The label that is open where both are. This moves the nodes of `second`; a label of many
@@ -112,10 +109,7 @@ impl Label {
     pub fn meet(self, second: Label) -> Result<Label, Memory>
         ensures { IfOk result (λ label. label ≡ labels.Meet self second) }
     {
-        let mut nodes = parts(self, second)?;
-        let length = nodes.len() + 1;
-        push(&mut nodes, Node::Meet(length))?;
-        Ok(Label { nodes })
+        made_of(Whole::Meet, self, second)
     }
 
     /// Whether the two are the same label.
@@ -141,6 +135,16 @@ impl Label {
             nodes: self.nodes.as_slice(),
         }
     }
+}
+
+/// The label of this kind whose parts the two are.
+fn made_of(whole: Whole, first: Label, second: Label) -> Result<Label, Memory>
+    ensures { IfOk result (λ label. label ≡ whole_of whole first second) }
+{
+    let mut nodes = parts(first, second)?;
+    let length = nodes.len() + 1;
+    push(&mut nodes, whole.node(length))?;
+    Ok(Label { nodes })
 }
 
 /// The nodes of the two labels, one behind the other.

@@ -3,6 +3,7 @@ ghost use Rattle.dy_label.specs.Words.{uses_names_below};
 ghost use Rattle.dy_label.specs.WordsMeaning.{static_label_of};
 
 use super::*;
+use crate::label_nodes::Whole;
 use crate::{Atom, Scope, StaticLabel};
 use std::alloc::{AllocError, Global};
 use std::process::Abort;
@@ -16,24 +17,23 @@ fn name(number: u8) -> StaticLabel
     StaticLabel::One(Atom::Name(number))
 }
 
-fn joined(alloc: Global, first: StaticLabel, second: StaticLabel) -> Result<StaticLabel, AllocError>
+/// The label of this kind whose parts the two are.
+fn made_of(
+    alloc: Global,
+    whole: Whole,
+    first: StaticLabel,
+    second: StaticLabel,
+) -> Result<StaticLabel, AllocError>
     requires first { uses_names_below 9 (static_label_of first) ≡ true }
     requires second { uses_names_below 9 (static_label_of second) ≡ true }
     ensures { IfOk result (λ label. uses_names_below 9 (static_label_of label) ≡ true) }
 {
     let first = Box::new(alloc, first)?;
     let second = Box::new(alloc, second)?;
-    Ok(StaticLabel::Join(first, second))
-}
-
-fn met(alloc: Global, first: StaticLabel, second: StaticLabel) -> Result<StaticLabel, AllocError>
-    requires first { uses_names_below 9 (static_label_of first) ≡ true }
-    requires second { uses_names_below 9 (static_label_of second) ≡ true }
-    ensures { IfOk result (λ label. uses_names_below 9 (static_label_of label) ≡ true) }
-{
-    let first = Box::new(alloc, first)?;
-    let second = Box::new(alloc, second)?;
-    Ok(StaticLabel::Meet(first, second))
+    Ok(match whole {
+        Whole::Join => StaticLabel::Join(first, second),
+        Whole::Meet => StaticLabel::Meet(first, second),
+    })
 }
 
 fn nine(rt: &impl Abort) -> Scope
@@ -111,10 +111,10 @@ fn words_of_one_session(rt: HostRuntime) {
 #[test]
 fn joins_and_meets(rt: HostRuntime) -> Result<(), Fail> {
     let alloc = rt.alloc();
-    let either = joined(alloc, name(1), name(2))?;
+    let either = made_of(alloc, Whole::Join, name(1), name(2))?;
     assert!(rt; !implies(&rt, &either, &name(1)));
     assert!(rt; implies(&rt, &name(1), &either));
-    let both = met(alloc, name(1), StaticLabel::One(Atom::Next))?;
+    let both = made_of(alloc, Whole::Meet, name(1), StaticLabel::One(Atom::Next))?;
     assert!(rt; implies(&rt, &both, &name(0)));
     assert!(rt; implies(&rt, &both, &name(1)));
     assert!(rt; !implies(&rt, &name(1), &both));
@@ -144,9 +144,9 @@ fn either_pair(
     requires d { uses_names_below 9 (static_label_of d) ≡ true }
     ensures { IfOk result (λ label. uses_names_below 9 (static_label_of label) ≡ true) }
 {
-    let first = met(alloc, a, b)?;
-    let second = met(alloc, c, d)?;
-    joined(alloc, first, second)
+    let first = made_of(alloc, Whole::Meet, a, b)?;
+    let second = made_of(alloc, Whole::Meet, c, d)?;
+    made_of(alloc, Whole::Join, first, second)
 }
 
 /// The names 0 to 7 by pairs, of which one is open.
@@ -155,7 +155,7 @@ fn some_pair(alloc: Global) -> Result<StaticLabel, AllocError>
 {
     let low = either_pair(alloc, name(0), name(1), name(2), name(3))?;
     let high = either_pair(alloc, name(4), name(5), name(6), name(7))?;
-    joined(alloc, low, high)
+    made_of(alloc, Whole::Join, low, high)
 }
 
 // 16 leaves, with nine names and every other word. Its second half is open just where `self` is:
@@ -174,9 +174,9 @@ fn a_label_of_the_greatest_size(rt: HostRuntime) -> Result<(), Fail> {
         StaticLabel::Nobody,
         name(1),
     )?;
-    let own = joined(alloc, words, rest)?;
-    let label = met(alloc, some_pair(alloc)?, own)?;
-    let short = met(alloc, some_pair(alloc)?, name(0))?;
+    let own = made_of(alloc, Whole::Join, words, rest)?;
+    let label = made_of(alloc, Whole::Meet, some_pair(alloc)?, own)?;
+    let short = made_of(alloc, Whole::Meet, some_pair(alloc)?, name(0))?;
     assert!(rt; implies(&rt, &label, &short));
     assert!(rt; implies(&rt, &short, &label));
     assert!(rt; implies(&rt, &label, &name(0)));
