@@ -1,0 +1,4 @@
+pub mod BestCandidates
+pub mod Derivations
+pub mod Messages
+pub mod Traces

@@ -1,0 +1,47 @@
+ghost use Rattle.std.specs.Prelude.{◌≡◌};
+ghost use Rattle.dy_entry.specs.LookUps.{comes_before, is_behind};
+ghost use Rattle.dy_entry.specs.Candidates.{preferred};
+
+/// A session, and a version of its state.
+pub(crate) type Stored = (u32, u32);
+
+/// A state that fits: its index, and its session and version.
+pub(crate) type Candidate = (u32, Stored);
+
+/// Whether the first comes before the second in the order of rising sessions and, within one, of
+/// falling versions.
+fn comes_before(first: Stored, second: Stored) -> bool
+    ensures { result ≡ comes_before first second }
+{
+    first.0 < second.0 || (first.0 == second.0 && second.1 < first.1)
+}
+
+/// Whether this version lies behind what is given, if anything is.
+fn is_behind(from: Option<Stored>, at: Stored) -> bool
+    ensures { result ≡ is_behind from at }
+{
+    match from {
+        None => true,
+        Some(from) => comes_before(from, at),
+    }
+}
+
+/// The earlier of what was found and another state at a later index, if that one lies behind what
+/// is given.
+pub(crate) fn preferred(
+    from: Option<Stored>,
+    found: Option<Candidate>,
+    other: Candidate,
+) -> Option<Candidate>
+    ensures { result ≡ preferred from found other }
+{
+    let is_earlier = match found {
+        None => true,
+        Some(found) => comes_before(other.1, found.1),
+    };
+    if is_behind(from, other.1) && is_earlier {
+        Some(other)
+    } else {
+        found
+    }
+}

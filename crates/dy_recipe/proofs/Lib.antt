@@ -1,0 +1,3 @@
+pub mod Samenesses
+pub mod LastValues
+pub mod ValuesByPlaces

@@ -1,0 +1,7 @@
+pub mod LentMeaning
+pub mod Meaning
+pub mod Moves
+pub mod Openings
+pub mod Places
+pub mod Sameness
+pub mod Values

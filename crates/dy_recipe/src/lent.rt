@@ -1,0 +1,143 @@
+ghost use Rattle.std.specs.Prelude.{◌≡◌, [], IfOk, option_map};
+ghost use Rattle.std.specs.Option.{option_copied};
+ghost use Rattle.dy_flat.specs.Views.{tree_of};
+ghost use Rattle.dy_flat.specs.PartMeaning.{part_of};
+ghost use Rattle.dy_recipe.specs.Moves.{Forge};
+ghost use Rattle.dy_recipe.specs.Values.{numbered, made_by};
+ghost use Rattle.dy_recipe.specs.Meaning.{move_of};
+ghost use Rattle.dy_recipe.specs.LentMeaning.{term_of_lent};
+
+use crate::given::Given;
+use crate::moves::Move;
+use crate::opening::{opened, public_opened, signed_message};
+use dy_flat::{
+    FlatTerm, View, aead, data_part, first, from_tree, hash, kdf, lit, mac, name, nonce, pair,
+    penc, pk, second, sign, to_tree, vk,
+};
+use dy_term::{Memory, Text, Word};
+use std::alloc::Global;
+
+/// What a move makes its value of: a term that is lent, whole or as a part, or a constructor and its parts.
+#[derive(Clone, Copy)]
+pub(crate) enum Lent<'a> {
+    Whole(&'a FlatTerm),
+    Part(View<'a>),
+    Lit(&'a Text),
+    Name(&'a Word),
+    Nonce(u32),
+    Pair(View<'a>, View<'a>),
+    Pk(View<'a>),
+    Vk(View<'a>),
+    Penc(View<'a>, View<'a>),
+    Aead(View<'a>, View<'a>, View<'a>),
+    Sign(View<'a>, View<'a>),
+    Mac(View<'a>, View<'a>),
+    Kdf(View<'a>, &'a Text, View<'a>),
+    Hash(View<'a>),
+}
+
+/// The value that a number names, counted from 1.
+fn numbered(values: &[FlatTerm], number: u32) -> Option<View<'_>>
+    ensures { part_of result ≡ numbered values.now number }
+{
+    if number == 0 {
+        return None;
+    }
+    match values.get(number as usize - 1) {
+        Some(value) => Some(value.whole()),
+        None => None,
+    }
+}
+
+/// The nonce that an entry forged.
+fn forged<'a, G: Given>(index: u32, given: &G) -> Option<Lent<'a>>
+    ensures { option_map term_of_lent result ≡ made_by (G.leaves given.now) [] (Forge index) }
+{
+    if given.is_forge(index) {
+        Some(Lent::Nonce(index))
+    } else {
+        None
+    }
+}
+
+/// A part, if there is one.
+fn as_part<'a>(part: Option<View<'a>>) -> Option<Lent<'a>>
+    ensures { option_map term_of_lent result ≡ part_of part.entry }
+{
+    Some(Lent::Part(part?))
+}
+
+/// What a move makes its value of, over the values of the earlier moves. `None` exactly where it has no value of
+/// any size.
+pub(crate) fn lent_by<'a, G: Given>(
+    step: &'a Move,
+    values: &'a [FlatTerm],
+    given: &'a G,
+) -> Option<Lent<'a>>
+    ensures { option_map term_of_lent result ≡ made_by (G.leaves given.now) values.now (move_of step.now) }
+{
+    match step {
+        Move::Message(_) | Move::Cert(_) | Move::State(_, _) => {
+            Some(Lent::Whole(given.value(step)?))
+        }
+        Move::Forge(index) => forged(*index, given),
+        Move::Lit(text) => Some(Lent::Lit(text)),
+        Move::Name(principal) => Some(Lent::Name(principal)),
+        Move::Pair(a, b) => Some(Lent::Pair(numbered(values, *a)?, numbered(values, *b)?)),
+        Move::Pk(a) => Some(Lent::Pk(numbered(values, *a)?)),
+        Move::Vk(a) => Some(Lent::Vk(numbered(values, *a)?)),
+        Move::Penc(a, b) => Some(Lent::Penc(numbered(values, *a)?, numbered(values, *b)?)),
+        Move::Aead(a, b, c) => Some(Lent::Aead(
+            numbered(values, *a)?,
+            numbered(values, *b)?,
+            numbered(values, *c)?,
+        )),
+        Move::Sign(a, b) => Some(Lent::Sign(numbered(values, *a)?, numbered(values, *b)?)),
+        Move::Mac(a, b) => Some(Lent::Mac(numbered(values, *a)?, numbered(values, *b)?)),
+        Move::Kdf(a, context, b) => Some(Lent::Kdf(
+            numbered(values, *a)?,
+            context,
+            numbered(values, *b)?,
+        )),
+        Move::Hash(a) => Some(Lent::Hash(numbered(values, *a)?)),
+        Move::Fst(a) => as_part(first(numbered(values, *a)?)),
+        Move::Snd(a) => as_part(second(numbered(values, *a)?)),
+        Move::Pdec(a, key) => as_part(public_opened(
+            numbered(values, *a)?,
+            numbered(values, *key)?,
+        )),
+        Move::Adec(a, key) => as_part(opened(numbered(values, *a)?, numbered(values, *key)?)),
+        Move::Ad(a) => as_part(data_part(numbered(values, *a)?)),
+        Move::Body(a) => as_part(signed_message(numbered(values, *a)?)),
+    }
+}
+
+/// A lent part, in memory of its own.
+fn copied(alloc: Global, part: View) -> Result<FlatTerm, Memory>
+    ensures { IfOk result (λ made. made ≡ tree_of part.entry) }
+{
+    let tree = to_tree(alloc, part)?;
+    from_tree(alloc, &tree)
+}
+
+/// The term, in memory of its own. The one refusal is for want of memory.
+pub(crate) fn build(alloc: Global, lent: Lent) -> Result<FlatTerm, Memory>
+    ensures { IfOk result (λ made. made ≡ term_of_lent lent.entry) }
+{
+    match lent {
+        Lent::Whole(term) => term.copy(alloc),
+        Lent::Part(part) => copied(alloc, part),
+        Lent::Lit(text) => lit(alloc, text),
+        Lent::Name(principal) => name(alloc, principal),
+        Lent::Nonce(index) => nonce(alloc, index),
+        Lent::Pair(a, b) => pair(alloc, a, b),
+        Lent::Pk(a) => pk(alloc, a),
+        Lent::Vk(a) => vk(alloc, a),
+        Lent::Penc(a, b) => penc(alloc, a, b),
+        Lent::Aead(a, b, c) => aead(alloc, a, b, c),
+        Lent::Sign(a, b) => sign(alloc, a, b),
+        Lent::Mac(a, b) => mac(alloc, a, b),
+        Lent::Kdf(a, context, b) => kdf(alloc, a, context, b),
+        Lent::Hash(a) => hash(alloc, a),
+    }
+}
