@@ -5,9 +5,20 @@ ghost use Rattle.dy_flat.specs.Views.{tree_of};
 
 use crate::contents::Contents;
 use crate::flat_nodes::Node;
+use crate::flat_terms::FlatTerm;
 use crate::runs::Run;
 use crate::views::View;
 use dy_term::Memory;
+use std::alloc::Global;
+
+/// A lent term, in memory of its own. The one refusal is for want of memory.
+pub fn copied(alloc: Global, view: View) -> Result<FlatTerm, Memory>
+    ensures { IfOk result (λ made. made ≡ tree_of view.entry) }
+{
+    let mut run = Run::with_room(alloc, view.nodes.len())?;
+    run.push_view(view)?;
+    Ok(FlatTerm::of_run(run))
+}
 
 impl Run {
     /// Adds a node of other contents.

@@ -1,3 +1,4 @@
+use crate::copying::copied;
 use crate::runs::Run;
 use crate::views::View;
 use dy_term::Memory;
@@ -57,8 +58,6 @@ impl FlatTerm {
     pub fn copy(&self, alloc: Global) -> Result<FlatTerm, Memory>
         ensures { IfOk result (λ made. made ≡ self.now) }
     {
-        let mut run = Run::with_room(alloc, self.run.len())?;
-        run.push_view(self.whole())?;
-        Ok(FlatTerm::of_run(run))
+        copied(alloc, self.whole())
     }
 }

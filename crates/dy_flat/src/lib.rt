@@ -17,6 +17,7 @@ mod views;
 pub use building::{aead, hash, kdf, lit, mac, name, nonce, pair, penc, pk, sign, vk};
 pub use comparing::same;
 pub use converting::{from_tree, to_tree};
+pub use copying::copied;
 pub use flat_terms::FlatTerm;
 pub use parts::{body_part, data_part, first, inner, key_part, second};
 pub use reading::{nodes, shape};

@@ -11,8 +11,8 @@ use crate::given::Given;
 use crate::moves::Move;
 use crate::opening::{opened, public_opened, signed_message};
 use dy_flat::{
-    FlatTerm, View, aead, data_part, first, from_tree, hash, kdf, lit, mac, name, nonce, pair,
-    penc, pk, second, sign, to_tree, vk,
+    FlatTerm, View, aead, copied, data_part, first, hash, kdf, lit, mac, name, nonce, pair, penc,
+    pk, second, sign, vk,
 };
 use dy_term::{Memory, Text, Word};
 use std::alloc::Global;
@@ -110,14 +110,6 @@ pub(crate) fn lent_by<'a, G: Given>(
         Move::Ad(a) => as_part(data_part(numbered(values, *a)?)),
         Move::Body(a) => as_part(signed_message(numbered(values, *a)?)),
     }
-}
-
-/// A lent part, in memory of its own.
-fn copied(alloc: Global, part: View) -> Result<FlatTerm, Memory>
-    ensures { IfOk result (λ made. made ≡ tree_of part.entry) }
-{
-    let tree = to_tree(alloc, part)?;
-    from_tree(alloc, &tree)
 }
 
 /// The term, in memory of its own. The one refusal is for want of memory.
