@@ -1,6 +1,6 @@
 -- Runs of labels: where the last one begins, and what it stands for.
-use Rattle.std.proofs.Common.{◌≡◌, ℕ, zero, suc, ◌+◌, ◌<◌, ◌≤◌, List, [], ◌∷◌, ◌++◌, length, map, take, drop, refl, ap, sym, ◌∙◌, append_assoc, arith, length-append}
-use Rattle.std.proofs.lemmas.List.{append-nil, length-map, map-append, length_push, take-map}
+use Rattle.std.proofs.Common.{◌≡◌, ℕ, ◌+◌, ◌<◌, ◌≤◌, List, [], ◌∷◌, ◌++◌, length, map, take, drop, refl, ap, sym, ◌∙◌, append_assoc, arith, length-append}
+use Rattle.std.proofs.lemmas.List.{append-nil, length-map, map-append, length_push, take-map, drop-map}
 use Rattle.std.proofs.Math.Seq.{take-append_seam, drop-append_seam}
 use Rattle.dy_label.specs.Labels as labels
 use Rattle.dy_label.specs.Labels.{Label}
@@ -53,11 +53,6 @@ run_length_of_last rest before last label e =
 
 pub run_of-not_empty : (label : Label) → 0 < length (run_of label)
 run_of-not_empty label = rw (run_of-parts label, length_push (nodes_of_parts label) (last_node label)) (omega arith)
-
-drop-map : {X Y : Type 0} (f : X → Y) (n : ℕ) (xs : List X) → drop n (map f xs) ≡ map f (drop n xs)
-drop-map f zero xs = refl
-drop-map f (suc n) [] = refl
-drop-map f (suc n) (x ∷ xs) = drop-map f n xs
 
 -- the same for nodes of the code, which f takes to nodes of a run
 module _ {A : Type 0} (f : A → Node) where

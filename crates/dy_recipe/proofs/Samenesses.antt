@@ -1,25 +1,22 @@
 -- Terms are the same, part by part, exactly where they are equal.
 use Rattle.std.proofs.Common.{◌≡◌, ◌≢◌, Bool, true, false, ◌&&◌, refl, ap, sym, ◌∙◌, inl, inr, bytes_eq, arith}
 use Rattle.std.proofs.lemmas.Slice.Eq.{bytes_eq-Decides}
-use Rattle.std.proofs.lemmas.Bool.{and_parts, cases_Bool, eqb-true}
+use Rattle.std.proofs.lemmas.Bool.{and_parts, and_from, cases_Bool, eqb-true}
 use Rattle.dy_term.specs.Terms.{Term, Lit, Name, Nonce, Pair, Pk, Vk, Penc, Aead, Sign, Mac, Kdf, Hash}
 use Rattle.dy_recipe.specs.Sameness.{is_same}
-
-both_true : (s t : Bool) → s ≡ true → t ≡ true → (s && t) ≡ true
-both_true s t e f = ap (λ x. x && t) e ∙ f
 
 pub is_same-refl : (a : Term) → is_same a a ≡ true
 is_same-refl (Lit text) = (bytes_eq-Decides text text).1 refl
 is_same-refl (Name principal) = (bytes_eq-Decides principal principal).1 refl
 is_same-refl (Nonce index) = grind arith
-is_same-refl (Pair a b) = both_true _ _ (is_same-refl a) (is_same-refl b)
+is_same-refl (Pair a b) = and_from _ _ (is_same-refl a) (is_same-refl b)
 is_same-refl (Pk a) = is_same-refl a
 is_same-refl (Vk a) = is_same-refl a
-is_same-refl (Penc a b) = both_true _ _ (is_same-refl a) (is_same-refl b)
-is_same-refl (Aead a b c) = both_true _ _ (is_same-refl a) (both_true _ _ (is_same-refl b) (is_same-refl c))
-is_same-refl (Sign a b) = both_true _ _ (is_same-refl a) (is_same-refl b)
-is_same-refl (Mac a b) = both_true _ _ (is_same-refl a) (is_same-refl b)
-is_same-refl (Kdf a context b) = both_true _ _ (is_same-refl a) (both_true _ _ ((bytes_eq-Decides context context).1 refl) (is_same-refl b))
+is_same-refl (Penc a b) = and_from _ _ (is_same-refl a) (is_same-refl b)
+is_same-refl (Aead a b c) = and_from _ _ (is_same-refl a) (and_from _ _ (is_same-refl b) (is_same-refl c))
+is_same-refl (Sign a b) = and_from _ _ (is_same-refl a) (is_same-refl b)
+is_same-refl (Mac a b) = and_from _ _ (is_same-refl a) (is_same-refl b)
+is_same-refl (Kdf a context b) = and_from _ _ (is_same-refl a) (and_from _ _ ((bytes_eq-Decides context context).1 refl) (is_same-refl b))
 is_same-refl (Hash a) = is_same-refl a
 
 two : (make : Term → Term → Term) (a b c d : Term) → a ≡ c → b ≡ d → make a b ≡ make c d
