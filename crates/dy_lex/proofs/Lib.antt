@@ -1,4 +1,4 @@
 pub mod Runs
-pub mod FrontLaws
+pub mod PrefixLaws
 pub mod Reading
 pub mod OneReading

@@ -6,12 +6,12 @@ use Rattle.std.proofs.lemmas.List.Folds.{list_all-append}
 use Rattle.std.specs.List.{list_all, prefix_len}
 use Rattle.dy_lex.specs.declared.tokens.TokenKind.{TokenKind}
 use Rattle.dy_lex.specs.Symbols.{is_blank}
-use Rattle.dy_lex.specs.Tokens.{Piece, newlines, Skips, Begins, Spells, IsNoToken, IsFaultyBehind}
-use Rattle.dy_lex.specs.Fronts.{front_token}
+use Rattle.dy_lex.specs.Tokens.{Piece, newlines, Skips, Begins, Spells, IsNoToken, IsFaultyAfter}
+use Rattle.dy_lex.specs.MirrorPrefixes.{token_prefix}
 use Rattle.dy_lex.proofs.Runs.{prefix_len-through}
-use Rattle.dy_lex.proofs.FrontLaws.{again, BeginsSolid, token_is_solid}
+use Rattle.dy_lex.proofs.PrefixLaws.{again, BeginsSolid, token_is_solid}
 
--- where the first byte is no blank, no blanks stand at the front
+-- where the first byte is no blank, no blanks stand at the start
 solid_stops : (bytes : List ℕ) → BeginsSolid bytes → prefix_len is_blank bytes ≡ 0
 solid_stops bytes solid = rw (solid.split, solid.not_blank) refl
 
@@ -31,20 +31,20 @@ begins_solid token at line source rest begins =
 no_token_solid : (source : List ℕ) → IsNoToken source → BeginsSolid source
 no_token_solid source none = record { first = none.first; more = none.more; split = none.split; not_blank = none.not_blank }
 
--- the place, the line and the rest behind all blanks at the front
-pub record IsBehindBlanks (at line : ℕ) (source : List ℕ) (next next_line : ℕ) (rest : List ℕ) : Type 0 where
+-- the place, the line and the rest after all blanks at the start
+pub record IsAfterBlanks (at line : ℕ) (source : List ℕ) (next next_line : ℕ) (rest : List ℕ) : Type 0 where
   pub place : next ≡ at + prefix_len is_blank source
   pub lines : next_line ≡ line + newlines (take (prefix_len is_blank source) source)
-  pub behind : rest ≡ drop (prefix_len is_blank source) source
+  pub after : rest ≡ drop (prefix_len is_blank source) source
 
--- blanks that lead to another byte are all blanks at the front
-skips_all : (at line : ℕ) (source : List ℕ) (next next_line : ℕ) (rest : List ℕ) → Skips at line source next next_line rest → BeginsSolid rest → IsBehindBlanks at line source next next_line rest
+-- blanks that lead to another byte are all blanks at the start
+skips_all : (at line : ℕ) (source : List ℕ) (next next_line : ℕ) (rest : List ℕ) → Skips at line source next next_line rest → BeginsSolid rest → IsAfterBlanks at line source next next_line rest
 skips_all at line source next next_line rest skips solid =
     let len : prefix_len is_blank (skips.blanks ++ rest) ≡ length skips.blanks = omega (arith, prefix_len-through is_blank skips.blanks rest skips.blank, solid_stops rest solid) in
     rw skips.split (record {
       place = rw len skips.place;
       lines = rw (len, take_at skips.blanks rest (length skips.blanks) refl) skips.line_is;
-      behind = rw (len, drop_at skips.blanks rest (length skips.blanks) refl) refl;
+      after = rw (len, drop_at skips.blanks rest (length skips.blanks) refl) refl;
     })
 
 -- a source of blanks leads to no other byte
@@ -62,10 +62,10 @@ begins_same : (a b : Piece) (at line : ℕ) (source after_a after_b : List ℕ) 
 begins_same a b at line source after_a after_b begins_a begins_b =
     let to_a = skips_all at line source a.at a.line (a.text ++ after_a) begins_a.skips (begins_solid a at line source after_a begins_a) in
     let to_b = skips_all at line source b.at b.line (b.text ++ after_b) begins_b.skips (begins_solid b at line source after_b begins_b) in
-    let wholes : a.text ++ after_a ≡ b.text ++ after_b = to_a.behind ∙ sym to_b.behind in
+    let wholes : a.text ++ after_a ≡ b.text ++ after_b = to_a.after ∙ sym to_b.after in
     let found_a = again a.kind a.text after_a begins_a.is_token begins_a.whole in
     let found_b = again b.kind b.text after_b begins_b.is_token begins_b.whole in
-    let found : ◌≡◌ {A = TokenKind × ℕ} (a.kind, length a.text) (b.kind, length b.text) = let same = ap front_token wholes in cc in
+    let found : ◌≡◌ {A = TokenKind × ℕ} (a.kind, length a.text) (b.kind, length b.text) = let same = ap token_prefix wholes in cc in
     let lens : length a.text ≡ length b.text = ap (λ (p : TokenKind × ℕ). p.1) found in
     let texts : a.text ≡ b.text = sym (take_at a.text after_a (length a.text) refl) ∙ rw wholes (take_at b.text after_b (length a.text) (sym lens)) in
     let rests : after_a ≡ after_b = sym (drop_at a.text after_a (length a.text) refl) ∙ rw wholes (drop_at b.text after_b (length a.text) (sym lens)) in
@@ -73,11 +73,11 @@ begins_same a b at line source after_a after_b begins_a begins_b =
     λ i. (tokens i, rests i)
 
 -- no token begins at a fault
-begins_no_fault : (token : Piece) (at line : ℕ) (source rest : List ℕ) (fault : ℕ) → IsFaultyBehind [] at line source fault → Begins token at line source rest → ⊥
+begins_no_fault : (token : Piece) (at line : ℕ) (source rest : List ℕ) (fault : ℕ) → IsFaultyAfter [] at line source fault → Begins token at line source rest → ⊥
 begins_no_fault token at line source rest fault faulty begins =
     let to_fault = skips_all at line source faulty.0 fault faulty.1 faulty.2 (no_token_solid faulty.1 faulty.3) in
     let to_token = skips_all at line source token.at token.line (token.text ++ rest) begins.skips (begins_solid token at line source rest begins) in
-    faulty.3.no_token token.kind token.text rest (to_fault.behind ∙ sym to_token.behind) begins.is_token begins.whole
+    faulty.3.no_token token.kind token.text rest (to_fault.after ∙ sym to_token.after) begins.is_token begins.whole
 
 -- a source of blanks begins with no token
 begins_no_blanks : (token : Piece) (at line : ℕ) (source rest : List ℕ) → list_all is_blank source ≡ true → Begins token at line source rest → ⊥
@@ -96,17 +96,17 @@ spells_same (x ∷ a) (y ∷ b) at line source in_a in_b =
     cc
 
 -- a source with a fault has no list of tokens
-pub faulty_not_spelled : (a b : List Piece) (at line : ℕ) (source : List ℕ) (fault : ℕ) → IsFaultyBehind a at line source fault → Spells b at line source → ⊥
+pub faulty_not_spelled : (a b : List Piece) (at line : ℕ) (source : List ℕ) (fault : ℕ) → IsFaultyAfter a at line source fault → Spells b at line source → ⊥
 faulty_not_spelled [] [] at line source fault faulty spells = blanks_end at line source faulty.0 fault faulty.1 spells faulty.2 (no_token_solid faulty.1 faulty.3)
 faulty_not_spelled [] (y ∷ b) at line source fault faulty spells = begins_no_fault y at line source spells.0 fault faulty spells.1
 faulty_not_spelled (x ∷ a) [] at line source fault faulty spells = begins_no_blanks x at line source faulty.0 spells faulty.1
 faulty_not_spelled (x ∷ a) (y ∷ b) at line source fault faulty spells =
     let same = begins_same x y at line source faulty.0 spells.0 faulty.1 spells.1 in
-    let moved = subst (λ (p : Piece × List ℕ). IsFaultyBehind a (p.0.at + length p.0.text) p.0.line p.1 fault) same faulty.2 in
+    let moved = subst (λ (p : Piece × List ℕ). IsFaultyAfter a (p.0.at + length p.0.text) p.0.line p.1 fault) same faulty.2 in
     faulty_not_spelled a b (y.at + length y.text) y.line spells.0 fault moved spells.2
 
 -- a source has one fault
-pub faults_same : (a b : List Piece) (at line : ℕ) (source : List ℕ) (k l : ℕ) → IsFaultyBehind a at line source k → IsFaultyBehind b at line source l → k ≡ l
+pub faults_same : (a b : List Piece) (at line : ℕ) (source : List ℕ) (k l : ℕ) → IsFaultyAfter a at line source k → IsFaultyAfter b at line source l → k ≡ l
 faults_same [] [] at line source k l in_a in_b =
     let to_k = skips_all at line source in_a.0 k in_a.1 in_a.2 (no_token_solid in_a.1 in_a.3) in
     let to_l = skips_all at line source in_b.0 l in_b.1 in_b.2 (no_token_solid in_b.1 in_b.3) in
@@ -115,5 +115,5 @@ faults_same [] (y ∷ b) at line source k l in_a in_b = absurd (begins_no_fault 
 faults_same (x ∷ a) [] at line source k l in_a in_b = absurd (begins_no_fault x at line source in_a.0 l in_b in_a.1)
 faults_same (x ∷ a) (y ∷ b) at line source k l in_a in_b =
     let same = begins_same x y at line source in_a.0 in_b.0 in_a.1 in_b.1 in
-    let moved = subst (λ (p : Piece × List ℕ). IsFaultyBehind a (p.0.at + length p.0.text) p.0.line p.1 k) same in_a.2 in
+    let moved = subst (λ (p : Piece × List ℕ). IsFaultyAfter a (p.0.at + length p.0.text) p.0.line p.1 k) same in_a.2 in
     faults_same a b (y.at + length y.text) y.line in_b.0 k l moved in_b.2

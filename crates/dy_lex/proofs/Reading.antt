@@ -7,9 +7,9 @@ use mir.Val.{bool_byte}
 use Rattle.std.specs.List.{list_all}
 use Rattle.dy_lex.specs.declared.tokens.TokenKind.{TokenKind}
 use Rattle.dy_lex.specs.Symbols.{is_blank}
-use Rattle.dy_lex.specs.Tokens.{Piece, newlines, Skips, Begins, Spells, IsFaultyBehind, IsFaulty}
-use Rattle.dy_lex.specs.Fronts.{front_token}
-use Rattle.dy_lex.proofs.FrontLaws.{takes, nothing_found}
+use Rattle.dy_lex.specs.Tokens.{Piece, newlines, Skips, Begins, Spells, IsFaultyAfter, IsFaulty}
+use Rattle.dy_lex.specs.MirrorPrefixes.{token_prefix}
+use Rattle.dy_lex.proofs.PrefixLaws.{takes, nothing_found}
 
 -- how many lines end with the byte
 abbrev pub newline : ℕ → ℕ
@@ -21,7 +21,7 @@ newlines-cons b more = sum_by-cons newline b more
 
 -- a source that begins with a blank, and goes on with more
 module _ (b at line : ℕ) (more : List ℕ) (blank : is_blank b ≡ true) where
-  -- blanks behind it are skipped with it
+  -- blanks after it are skipped with it
   skips_blank : (next next_line : ℕ) (rest : List ℕ) → Skips (at + 1) (line + newline b) more next next_line rest → Skips at line (b ∷ more) next next_line rest
   skips_blank next next_line rest skips = record {
     blanks = b ∷ skips.blanks;
@@ -31,7 +31,7 @@ module _ (b at line : ℕ) (more : List ℕ) (blank : is_blank b ≡ true) where
     line_is = omega (arith, newlines-cons b skips.blanks);
   }
 
-  -- the token behind it is the first of the source
+  -- the token after it is the first of the source
   begins_blank : (token : Piece) (rest : List ℕ) → Begins token (at + 1) (line + newline b) more rest → Begins token at line (b ∷ more) rest
   begins_blank token rest begins = record {
     skips = skips_blank token.at token.line (token.text ++ rest) begins.skips;
@@ -39,30 +39,30 @@ module _ (b at line : ℕ) (more : List ℕ) (blank : is_blank b ≡ true) where
     whole = begins.whole;
   }
 
-  -- the tokens behind a blank are those of the source
+  -- the tokens after a blank are those of the source
   pub spells_blank : (tokens : List Piece) → Spells tokens (at + 1) (line + newline b) more → Spells tokens at line (b ∷ more)
   spells_blank [] blanks = and_from (is_blank b) (list_all is_blank more) blank blanks
   spells_blank (token ∷ tokens) spells = (spells.0, begins_blank token spells.0 spells.1, spells.2)
 
-  -- what is no token behind it is none of the source
-  faulty_behind_blank : (tokens : List Piece) (fault : ℕ) → IsFaultyBehind tokens (at + 1) (line + newline b) more fault → IsFaultyBehind tokens at line (b ∷ more) fault
-  faulty_behind_blank [] fault faulty = (faulty.0, faulty.1, skips_blank faulty.0 fault faulty.1 faulty.2, faulty.3)
-  faulty_behind_blank (token ∷ tokens) fault faulty = (faulty.0, begins_blank token faulty.0 faulty.1, faulty.2)
+  -- what is no token after it is none of the source
+  faulty_after_blank : (tokens : List Piece) (fault : ℕ) → IsFaultyAfter tokens (at + 1) (line + newline b) more fault → IsFaultyAfter tokens at line (b ∷ more) fault
+  faulty_after_blank [] fault faulty = (faulty.0, faulty.1, skips_blank faulty.0 fault faulty.1 faulty.2, faulty.3)
+  faulty_after_blank (token ∷ tokens) fault faulty = (faulty.0, begins_blank token faulty.0 faulty.1, faulty.2)
 
-  -- a fault behind a blank is one of the source
+  -- a fault after a blank is one of the source
   pub faulty_blank : (fault : ℕ) → IsFaulty (at + 1) (line + newline b) more fault → IsFaulty at line (b ∷ more) fault
-  faulty_blank fault faulty = (faulty.0, faulty_behind_blank faulty.0 fault faulty.1)
+  faulty_blank fault faulty = (faulty.0, faulty_after_blank faulty.0 fault faulty.1)
 
 -- a source that begins with no blank
 pub skips_none : (at line : ℕ) (source : List ℕ) → Skips at line source at line source
 skips_none at line source = record { blanks = []; split = refl; blank = refl; place = omega arith; line_is = omega arith }
 
--- the token that is found at the front
-abbrev pub front_piece : TokenKind → ℕ → ℕ → ℕ → List ℕ → Piece
-front_piece kind len at line source = record { kind = kind; text = take len source; at = at; line = line }
+-- the token that is found at the start
+abbrev pub found_piece : TokenKind → ℕ → ℕ → ℕ → List ℕ → Piece
+found_piece kind len at line source = record { kind = kind; text = take len source; at = at; line = line }
 
 -- the source begins with the token that is found
-pub begins_found : (kind : TokenKind) (len at line : ℕ) (source : List ℕ) → front_token source ≡ Some (kind, len) → Begins (front_piece kind len at line source) at line source (drop len source)
+pub begins_found : (kind : TokenKind) (len at line : ℕ) (source : List ℕ) → token_prefix source ≡ Some (kind, len) → Begins (found_piece kind len at line source) at line source (drop len source)
 begins_found kind len at line source found =
     let taken = takes source kind len found in
     record {
@@ -72,7 +72,7 @@ begins_found kind len at line source found =
     }
 
 -- where nothing is found, and no blank stands, there is a fault
-pub faulty_here : (b at line : ℕ) (more : List ℕ) → is_blank b ≡ false → front_token (b ∷ more) ≡ None → IsFaulty at line (b ∷ more) line
+pub faulty_here : (b at line : ℕ) (more : List ℕ) → is_blank b ≡ false → token_prefix (b ∷ more) ≡ None → IsFaulty at line (b ∷ more) line
 faulty_here b at line more not_blank none = ([], (at, b ∷ more, skips_none at line (b ∷ more), nothing_found b more not_blank none))
 
 -- ---- the loop
@@ -110,17 +110,17 @@ module _ (source : List ℕ) (read : List Piece) (at line : ℕ) (reads : Reads 
       }
 
   -- over a token
-  pub reads_token : (kind : TokenKind) (len : ℕ) → front_token (drop at source) ≡ Some (kind, len) → Reads source (read ++ front_piece kind len at line (drop at source) ∷ []) (at + len) line
+  pub reads_token : (kind : TokenKind) (len : ℕ) → token_prefix (drop at source) ≡ Some (kind, len) → Reads source (read ++ found_piece kind len at line (drop at source) ∷ []) (at + len) line
   reads_token kind len found =
       let taken = takes (drop at source) kind len found in
-      let token = front_piece kind len at line (drop at source) in
+      let token = found_piece kind len at line (drop at source) in
       let begins : Begins token at line (drop at source) (drop (at + len) source) = rw (← drop-drop len at source) (begins_found kind len at line (drop at source) found) in
-      let behind : at + length token.text ≡ at + len = omega (arith, length-take-le len (drop at source) taken.within) in
+      let place : at + length token.text ≡ at + len = omega (arith, length-take-le len (drop at source) taken.within) in
       record {
         place = omega (arith, taken.within, length-drop at source);
         lines = omega arith;
-        spells = λ tokens spells. rw append_assoc (reads.spells (token ∷ tokens) (drop (at + len) source, begins, rw behind spells));
-        faulty = λ fault faulty. reads.faulty fault (token ∷ faulty.0, (drop (at + len) source, begins, rw behind faulty.1));
+        spells = λ tokens spells. rw append_assoc (reads.spells (token ∷ tokens) (drop (at + len) source, begins, rw place spells));
+        faulty = λ fault faulty. reads.faulty fault (token ∷ faulty.0, (drop (at + len) source, begins, rw place faulty.1));
       }
 
   -- at the end all is read
@@ -131,7 +131,7 @@ module _ (source : List ℕ) (read : List Piece) (at line : ℕ) (reads : Reads 
       rw append-nil at spells
 
   -- where no token begins, there is the fault
-  pub reads_fault : at < length source → is_blank (get_or source at 0) ≡ false → front_token (drop at source) ≡ None → IsFaulty 0 1 source line
+  pub reads_fault : at < length source → is_blank (get_or source at 0) ≡ false → token_prefix (drop at source) ≡ None → IsFaulty 0 1 source line
   reads_fault within not_blank none =
       let cut : drop at source ≡ get_or source at 0 ∷ drop (at + 1) source = drop_more source at 0 within in
-      reads.faulty line (rw cut (faulty_here (get_or source at 0) at line (drop (at + 1) source) not_blank (ap front_token (sym cut) ∙ none)))
+      reads.faulty line (rw cut (faulty_here (get_or source at 0) at line (drop (at + 1) source) not_blank (ap token_prefix (sym cut) ∙ none)))

@@ -1,3 +1,4 @@
 pub mod Symbols
 pub mod Tokens
-pub mod Fronts
+pub mod MirrorPrefixes
+pub mod Messages

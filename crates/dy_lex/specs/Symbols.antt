@@ -14,7 +14,8 @@ is_blank b = (b == 32 || b == 9) || (b == 10 || b == 13)
 abbrev pub is_number : List ℕ → Bool
 is_number [] = false
 is_number (b ∷ []) = is_ascii_digit b
-is_number (b ∷ c ∷ more) = (is_ascii_digit b && not (b == 48)) && (list_all is_ascii_digit (c ∷ more) && nat_le (length (c ∷ more)) 5)
+is_number (b ∷ c ∷ more) =
+    (is_ascii_digit b && not (b == 48)) && (list_all is_ascii_digit (c ∷ more) && nat_le (length (c ∷ more)) 5)
 
 -- a symbol of one byte
 abbrev pub is_mark : ℕ → Bool

@@ -40,7 +40,8 @@ pub record Begins (token : Piece) (at line : ℕ) (source rest : List ℕ) : Typ
 -- The tokens are those of the source, whose first byte stands at this place and on this line.
 abbrev pub Spells : List Piece → ℕ → ℕ → List ℕ → Type 0
 Spells [] at line source = list_all is_blank source ≡ true
-Spells (token ∷ tokens) at line source = (rest : List ℕ) × Begins token at line source rest × Spells tokens (token.at + length token.text) token.line rest
+Spells (token ∷ tokens) at line source =
+    (rest : List ℕ) × Begins token at line source rest × Spells tokens (token.at + length token.text) token.line rest
 
 -- Something other than a blank stands here, and no token begins.
 pub record IsNoToken (source : List ℕ) : Type 0 where
@@ -48,13 +49,17 @@ pub record IsNoToken (source : List ℕ) : Type 0 where
   pub more : List ℕ
   pub split : source ≡ first ∷ more
   pub not_blank : is_blank first ≡ false
-  pub no_token : (kind : TokenKind) (text rest : List ℕ) → source ≡ text ++ rest → IsToken kind text → runs_on kind rest ≡ false → ⊥
+  pub no_token : (kind : TokenKind) (text rest : List ℕ) → source ≡ text ++ rest → IsToken kind text →
+      runs_on kind rest ≡ false → ⊥
 
--- Behind tokens and blanks something stands on this line that is no token.
-abbrev pub IsFaultyBehind : List Piece → ℕ → ℕ → List ℕ → ℕ → Type 0
-IsFaultyBehind [] at line source fault = (place : ℕ) × (rest : List ℕ) × Skips at line source place fault rest × IsNoToken rest
-IsFaultyBehind (token ∷ tokens) at line source fault = (rest : List ℕ) × Begins token at line source rest × IsFaultyBehind tokens (token.at + length token.text) token.line rest fault
+-- After tokens and blanks something stands on this line that is no token.
+abbrev pub IsFaultyAfter : List Piece → ℕ → ℕ → List ℕ → ℕ → Type 0
+IsFaultyAfter [] at line source fault =
+    (place : ℕ) × (rest : List ℕ) × Skips at line source place fault rest × IsNoToken rest
+IsFaultyAfter (token ∷ tokens) at line source fault =
+    (rest : List ℕ) × Begins token at line source rest
+    × IsFaultyAfter tokens (token.at + length token.text) token.line rest fault
 
 -- The first byte that begins no token stands on this line.
 abbrev pub IsFaulty : ℕ → ℕ → List ℕ → ℕ → Type 0
-IsFaulty at line source fault = (tokens : List Piece) × IsFaultyBehind tokens at line source fault
+IsFaulty at line source fault = (tokens : List Piece) × IsFaultyAfter tokens at line source fault

@@ -1,24 +1,40 @@
-ghost use Rattle.std.specs.Prelude.{◌≡◌, ◌≤◌, ℕ, length, map, IfOk, IsErrOf};
+ghost use Rattle.std.specs.Prelude.{◌≡◌, ◌≤◌, ℕ, length, map, Some, IfOk, IsErrOf};
+ghost use Rattle.dy_lex.specs.Messages.{lex_message};
 ghost use Rattle.dy_lex.specs.Tokens.{pieces_of, Spells, IsFaulty};
 
-use crate::fronts::{front_token, is_blank};
+use crate::limits::MAX_SOURCE_BYTES;
+use crate::prefixes::{is_blank, token_prefix};
 use crate::tokens::Token;
 use std::alloc::Global;
-use thiserror::Error;
+use std::error::Error;
+use std::fmt;
 
 /// Why a source has no tokens.
-#[derive(Clone, Copy, Debug, PartialEq, Eq, Error)]
+#[derive(Clone, Copy, Debug, PartialEq, Eq)]
 pub enum LexError {
     /// On this line a byte that begins no token stands where one is due.
-    #[error("line {line}: no token begins here")]
     Bad { line: u32 },
-    #[error("out of memory")]
+    /// Memory for the tokens was refused.
     Memory,
 }
 
-/// The tokens of a source of at most 1,048,576 bytes, each a slice of it.
+impl fmt::Display for LexError {
+    ghost output = { λ e. Some (lex_message e) };
+
+    fn fmt<W: fmt::Write>(&self, f: &mut fmt::Formatter<W>) -> fmt::Result {
+        match self {
+            LexError::Bad { line } => write!(f, "line {line}: no token begins here"),
+            LexError::Memory => f.write_str("out of memory"),
+        }
+    }
+}
+
+impl Error for LexError {}
+
+/// The tokens of a source of at most `MAX_SOURCE_BYTES` bytes, each a slice of it. `Bad` comes exactly
+/// where a byte that is no blank begins no token, and names its line.
 pub fn lex<'a>(alloc: Global, source: &'a [u8]) -> Result<Vec<Token<'a>>, LexError>
-    requires { length source.now ≤ 1048576 }
+    requires { length source.now ≤ MAX_SOURCE_BYTES }
     ensures tokens { IfOk result (λ tokens. Spells (pieces_of tokens.items) 0 1 source.now) }
     ensures bad { (line : ℕ) → IsErrOf result (LexError.Bad line) → IsFaulty 0 1 source.now line }
 {
@@ -30,7 +46,7 @@ pub fn lex<'a>(alloc: Global, source: &'a [u8]) -> Result<Vec<Token<'a>>, LexErr
         if is_blank(rest[0]) {
             line += u32::from(rest[0] == b'\n');
             at += 1;
-        } else if let Some((kind, len)) = front_token(rest) {
+        } else if let Some((kind, len)) = token_prefix(rest) {
             let text = &rest[..len];
             let token = Token {
                 kind,

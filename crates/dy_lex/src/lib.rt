@@ -1,13 +1,15 @@
 //! Cuts a protocol file into tokens, which are slices of it.
 #![tactic(auto)]
 
-mod fronts;
 mod laws;
 mod lexing;
+mod limits;
+mod prefixes;
 mod tokens;
 
 pub use laws::one_reading;
 pub use lexing::{LexError, lex};
+pub use limits::MAX_SOURCE_BYTES;
 pub use tokens::{Token, TokenKind};
 
 #[cfg(test)]

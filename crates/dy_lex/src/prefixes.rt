@@ -3,7 +3,7 @@ ghost use Rattle.std.specs.List.{prefix_len, list_all};
 ghost use Rattle.std.specs.Char as ascii;
 ghost use Rattle.dy_term.specs.Characters as chars;
 ghost use Rattle.dy_lex.specs.Symbols as symbols;
-ghost use Rattle.dy_lex.specs.Fronts as fronts;
+ghost use Rattle.dy_lex.specs.MirrorPrefixes as mirror;
 
 use crate::tokens::TokenKind;
 use dy_term::characters::{is_text_byte, is_word_byte};
@@ -15,14 +15,14 @@ pub(crate) fn is_blank(byte: u8) -> bool
     (byte == b' ' || byte == b'\t') || (byte == b'\n' || byte == b'\r')
 }
 
-/// How many letters, digits and `_` stand at the front.
+/// How many letters, digits and `_` stand at the start.
 fn word_len(bytes: &[u8]) -> usize
     ensures { result ≡ prefix_len chars.is_word_byte bytes.now }
 {
     bytes.iter().take_while(|b| is_word_byte(**b)).count()
 }
 
-/// How many bytes of a text stand at the front.
+/// How many bytes of a text stand at the start.
 fn text_len(bytes: &[u8]) -> usize
     ensures { result ≡ prefix_len chars.is_text_byte bytes.now }
 {
@@ -58,8 +58,8 @@ fn is_number(bytes: &[u8]) -> bool
     }
 }
 
-fn front_number(bytes: &[u8]) -> Option<(TokenKind, usize)>
-    ensures { result ≡ fronts.front_number bytes.now }
+fn number_prefix(bytes: &[u8]) -> Option<(TokenKind, usize)>
+    ensures { result ≡ mirror.number_prefix bytes.now }
 {
     let len = word_len(bytes);
     if is_number(&bytes[..len]) {
@@ -69,8 +69,8 @@ fn front_number(bytes: &[u8]) -> Option<(TokenKind, usize)>
     }
 }
 
-fn front_text(more: &[u8]) -> Option<(TokenKind, usize)>
-    ensures { result ≡ fronts.front_text more.now }
+fn text_prefix(more: &[u8]) -> Option<(TokenKind, usize)>
+    ensures { result ≡ mirror.text_prefix more.now }
 {
     let len = text_len(more);
     if len < more.len() && more[len] == b'"' {
@@ -80,8 +80,8 @@ fn front_text(more: &[u8]) -> Option<(TokenKind, usize)>
     }
 }
 
-fn front_arrow(more: &[u8]) -> Option<(TokenKind, usize)>
-    ensures { result ≡ fronts.front_arrow more.now }
+fn arrow_prefix(more: &[u8]) -> Option<(TokenKind, usize)>
+    ensures { result ≡ mirror.arrow_prefix more.now }
 {
     match more {
         [b'>', ..] => Some((TokenKind::Symbol, 2)),
@@ -89,9 +89,9 @@ fn front_arrow(more: &[u8]) -> Option<(TokenKind, usize)>
     }
 }
 
-/// The kind and the length of the token at the front, if one begins there.
-pub(crate) fn front_token(bytes: &[u8]) -> Option<(TokenKind, usize)>
-    ensures { result ≡ fronts.front_token bytes.now }
+/// The kind and the length of the token at the start, if one begins there.
+pub(crate) fn token_prefix(bytes: &[u8]) -> Option<(TokenKind, usize)>
+    ensures { result ≡ mirror.token_prefix bytes.now }
 {
     match bytes {
         [] => None,
@@ -99,13 +99,13 @@ pub(crate) fn front_token(bytes: &[u8]) -> Option<(TokenKind, usize)>
             if b.is_ascii_alphabetic() {
                 Some((TokenKind::Word, word_len(bytes)))
             } else if b.is_ascii_digit() {
-                front_number(bytes)
+                number_prefix(bytes)
             } else if *b == b'"' {
-                front_text(more)
+                text_prefix(more)
             } else if is_mark(*b) {
                 Some((TokenKind::Symbol, 1))
             } else if *b == b'-' {
-                front_arrow(more)
+                arrow_prefix(more)
             } else {
                 None
             }

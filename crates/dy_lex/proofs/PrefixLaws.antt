@@ -1,4 +1,4 @@
--- What the code finds at the front is a token, as long as possible, and a token that stands there is found.
+-- What the code finds at the start is a token, as long as possible, and a token that stands there is found.
 use Rattle.std.proofs.Common.{◌≡◌, ℕ, suc, ◌+◌, ◌<◌, ◌≤◌, true, false, not, ◌==◌, nat_lt, ◌&&◌, List, [], ◌∷◌, ◌++◌, length, get_or, slice_index, take, drop, Option, Some, None, refl, sym, ap, subst, ◌∙◌, inl, inr, arith}
 use Rattle.std.specs.List.{list_all, prefix_len}
 use Rattle.std.specs.Char.{is_ascii_alphabetic, is_ascii_digit}
@@ -10,9 +10,9 @@ use Rattle.dy_term.specs.Characters.{is_word_byte, is_text_byte, is_long_word, i
 use Rattle.dy_lex.specs.declared.tokens.TokenKind.{TokenKind}
 use Rattle.dy_lex.specs.declared.tokens.TokenKind.TheVariants.{Word, Number, Text, Symbol}
 use Rattle.dy_lex.specs.Symbols.{is_blank, is_number, is_mark, is_symbol, IsToken, runs_on}
-use Rattle.dy_lex.specs.Fronts.{front_number, front_text, front_arrow, front_token}
+use Rattle.dy_lex.specs.MirrorPrefixes.{number_prefix, text_prefix, arrow_prefix, token_prefix}
 use Rattle.dy_lex.specs.Tokens.{IsNoToken}
-use Rattle.dy_lex.proofs.Runs.{list_all-weaker, prefix_len-through, list_all-prefix, prefix_len-behind}
+use Rattle.dy_lex.proofs.Runs.{list_all-weaker, prefix_len-through, list_all-prefix, prefix_len-after}
 
 -- a letter belongs to a word
 letter_is_word_byte : (b : ℕ) → is_ascii_alphabetic b ≡ true → is_word_byte b ≡ true
@@ -89,19 +89,19 @@ number_passes text number = list_all-weaker is_ascii_digit is_word_byte digit_is
 
 -- ---- what is found is a token
 
--- the front is a token of this kind and length, as long as possible
+-- the prefix is a token of this kind and length, as long as possible
 pub record Takes (kind : TokenKind) (len : ℕ) (source : List ℕ) : Type 0 where
   pub some : 0 < len
   pub within : len ≤ length source
   pub is_token : IsToken kind (take len source)
   pub whole : runs_on kind (drop len source) ≡ false
 
--- a token that was found, if one was, is at the front
+-- a token that was found, if one was, is at the start
 abbrev TakesFound : List ℕ → Option (TokenKind × ℕ) → Type 0
 TakesFound source None = Unit {0}
 TakesFound source (Some found) = Takes found.0 found.1 source
 
--- behind a letter at the front, the word is a token
+-- after a letter at the start, the word is a token
 word_is_taken : (b : ℕ) (more : List ℕ) → is_ascii_alphabetic b ≡ true → Takes Word (prefix_len is_word_byte (b ∷ more)) (b ∷ more)
 word_is_taken b more letter =
     let len = prefix_len is_word_byte more in
@@ -110,7 +110,7 @@ word_is_taken b more letter =
       some = omega arith;
       within = omega (arith, prefix_len-le-length is_word_byte more);
       is_token = and_from (is_ascii_alphabetic b) _ letter (list_all-prefix is_word_byte more);
-      whole = word-stops (drop len more) (prefix_len-behind is_word_byte more);
+      whole = word-stops (drop len more) (prefix_len-after is_word_byte more);
     })
 
 -- a number is not empty
@@ -119,18 +119,18 @@ number_is_some [] number = absurd cc
 number_is_some (b ∷ more) number = omega arith
 
 -- a number that is found is a token
-number_is_taken : (source : List ℕ) → TakesFound source (front_number source)
+number_is_taken : (source : List ℕ) → TakesFound source (number_prefix source)
 number_is_taken source =
     let len = prefix_len is_word_byte source in
     cond_both (is_number (take len source)) (Some (Number, len)) None (TakesFound source) (λ number. record {
       some = omega (arith, number_is_some (take len source) number, length-take len source);
       within = prefix_len-le-length is_word_byte source;
       is_token = number;
-      whole = number-runs_on (drop len source) ∙ word-stops (drop len source) (prefix_len-behind is_word_byte source);
+      whole = number-runs_on (drop len source) ∙ word-stops (drop len source) (prefix_len-after is_word_byte source);
     }) (λ none. tt)
 
 -- a text that is found is a token
-text_is_taken : (more : List ℕ) → TakesFound (34 ∷ more) (front_text more)
+text_is_taken : (more : List ℕ) → TakesFound (34 ∷ more) (text_prefix more)
 text_is_taken more =
     let len = prefix_len is_text_byte more in
     cond_both (nat_lt len (length more) && (slice_index more len == 34)) (Some (Text, 2 + len)) None (TakesFound (34 ∷ more)) (λ closed.
@@ -150,7 +150,7 @@ mark_is_taken : (b : ℕ) (more : List ℕ) → is_mark b ≡ true → Takes Sym
 mark_is_taken b more mark = record { some = omega arith; within = omega arith; is_token = mark; whole = symbol-stops more }
 
 -- an arrow that is found is a token
-arrow_is_taken : (b : ℕ) (more : List ℕ) → (b == 45) ≡ true → TakesFound (b ∷ more) (front_arrow more)
+arrow_is_taken : (b : ℕ) (more : List ℕ) → (b == 45) ≡ true → TakesFound (b ∷ more) (arrow_prefix more)
 arrow_is_taken b [] dash = tt
 arrow_is_taken b (c ∷ more) dash = cond_both (c == 62) (Some (Symbol, 2)) None (TakesFound (b ∷ c ∷ more)) (λ tip. record {
   some = omega arith;
@@ -160,7 +160,7 @@ arrow_is_taken b (c ∷ more) dash = cond_both (c == 62) (Some (Symbol, 2)) None
 }) (λ none. tt)
 
 -- whatever is found is a token
-found_is_taken : (source : List ℕ) → TakesFound source (front_token source)
+found_is_taken : (source : List ℕ) → TakesFound source (token_prefix source)
 found_is_taken [] = tt
 found_is_taken (b ∷ more) =
     let P = TakesFound (b ∷ more) in
@@ -170,44 +170,44 @@ found_is_taken (b ∷ more) =
     cond_both (is_mark b) _ _ P (mark_is_taken b more) (λ no_mark.
     cond_both (b == 45) _ _ P (arrow_is_taken b more) (λ no_dash. tt)))))
 
--- the token that is found is at the front
-pub takes : (source : List ℕ) (kind : TokenKind) (len : ℕ) → front_token source ≡ Some (kind, len) → Takes kind len source
+-- the token that is found is at the start
+pub takes : (source : List ℕ) (kind : TokenKind) (len : ℕ) → token_prefix source ≡ Some (kind, len) → Takes kind len source
 takes source kind len found = subst (TakesFound source) found (found_is_taken source)
 
 -- ---- a token is found again
 
--- exactly these bytes of a word stand at the front
+-- exactly these bytes of a word stand at the start
 word_len_is : (text rest : List ℕ) → list_all is_word_byte text ≡ true → runs_on Word rest ≡ false → prefix_len is_word_byte (text ++ rest) ≡ length text
 word_len_is text rest passes stops = omega (arith, prefix_len-through is_word_byte text rest passes, stops-word rest stops)
 
--- a word is found at the front
-word_again : (text rest : List ℕ) → is_long_word text ≡ true → runs_on Word rest ≡ false → front_token (text ++ rest) ≡ Some (Word, length text)
+-- a word is found at the start
+word_again : (text rest : List ℕ) → is_long_word text ≡ true → runs_on Word rest ≡ false → token_prefix (text ++ rest) ≡ Some (Word, length text)
 word_again [] rest word stops = absurd cc
 word_again (b ∷ more) rest word stops =
     let letter = (and_parts (is_ascii_alphabetic b) _ word).0 in
     cond-true _ _ _ letter ∙ ap (λ (n : ℕ). Some (Word, n)) (word_len_is (b ∷ more) rest (word_passes (b ∷ more) word) stops)
 
 -- the code for numbers finds a number
-number_found : (text rest : List ℕ) → is_number text ≡ true → runs_on Word rest ≡ false → front_number (text ++ rest) ≡ Some (Number, length text)
+number_found : (text rest : List ℕ) → is_number text ≡ true → runs_on Word rest ≡ false → number_prefix (text ++ rest) ≡ Some (Number, length text)
 number_found text rest number stops = rw (word_len_is text rest (number_passes text number) stops, take_at text rest (length text) refl, number) refl
 
--- a number is found at the front
-number_again : (text rest : List ℕ) → is_number text ≡ true → runs_on Word rest ≡ false → front_token (text ++ rest) ≡ Some (Number, length text)
+-- a number is found at the start
+number_again : (text rest : List ℕ) → is_number text ≡ true → runs_on Word rest ≡ false → token_prefix (text ++ rest) ≡ Some (Number, length text)
 number_again [] rest number stops = absurd cc
 number_again (b ∷ more) rest number stops =
     let digit = (and_parts (is_ascii_digit b) (list_all is_ascii_digit more) (number_is_digits (b ∷ more) number)).0 in
     cond-false _ _ _ (digit_is_no_letter b digit) ∙ cond-true _ _ _ digit ∙ number_found (b ∷ more) rest number stops
 
--- a text is found at the front
-text_again : (inner rest : List ℕ) → is_long_text inner ≡ true → front_token (quoted inner ++ rest) ≡ Some (Text, length (quoted inner))
+-- a text is found at the start
+text_again : (inner rest : List ℕ) → is_long_text inner ≡ true → token_prefix (quoted inner ++ rest) ≡ Some (Text, length (quoted inner))
 text_again inner rest passes =
     let len : prefix_len is_text_byte (inner ++ 34 ∷ rest) ≡ length inner = omega (arith, prefix_len-through is_text_byte inner (34 ∷ rest) passes) in
     let within : nat_lt (length inner) (length (inner ++ 34 ∷ rest)) ≡ true = lt-ltb _ _ (omega (arith, length-append inner (34 ∷ rest))) in
     let total : 2 + length inner ≡ suc (length (inner ++ 34 ∷ [])) = omega (arith, length-append inner (34 ∷ [])) in
     rw (append_assoc inner (34 ∷ []) rest, len, within, get_or_at inner 34 rest 0 (length inner) refl, total) refl
 
--- a symbol is found at the front
-symbol_again : (text rest : List ℕ) → is_symbol text ≡ true → front_token (text ++ rest) ≡ Some (Symbol, length text)
+-- a symbol is found at the start
+symbol_again : (text rest : List ℕ) → is_symbol text ≡ true → token_prefix (text ++ rest) ≡ Some (Symbol, length text)
 symbol_again [] rest symbol = absurd cc
 symbol_again (b ∷ []) rest symbol =
     let other = mark_is_other b symbol in
@@ -217,8 +217,8 @@ symbol_again (b ∷ c ∷ []) rest symbol =
     rw (eqb-true b 45 parts.0, eqb-true c 62 parts.1) refl
 symbol_again (b ∷ c ∷ d ∷ more) rest symbol = absurd cc
 
--- a token that nothing belongs to behind it is found, whole
-pub again : (kind : TokenKind) (text rest : List ℕ) → IsToken kind text → runs_on kind rest ≡ false → front_token (text ++ rest) ≡ Some (kind, length text)
+-- a token that nothing belongs to after it is found, whole
+pub again : (kind : TokenKind) (text rest : List ℕ) → IsToken kind text → runs_on kind rest ≡ false → token_prefix (text ++ rest) ≡ Some (kind, length text)
 again Word text rest is_token stops = word_again text rest is_token stops
 again Number text rest is_token stops = number_again text rest is_token (sym (number-runs_on rest) ∙ stops)
 again Text text rest is_token stops = rw is_token.2 (text_again is_token.0 rest is_token.1)
@@ -260,11 +260,11 @@ token_is_solid Symbol (b ∷ c ∷ []) is_token = record { first = b; more = c �
 token_is_solid Symbol (b ∷ c ∷ d ∷ more) is_token = absurd cc
 
 -- where nothing is found, and no blank stands, no token begins
-pub nothing_found : (first : ℕ) (more : List ℕ) → is_blank first ≡ false → front_token (first ∷ more) ≡ None → IsNoToken (first ∷ more)
+pub nothing_found : (first : ℕ) (more : List ℕ) → is_blank first ≡ false → token_prefix (first ∷ more) ≡ None → IsNoToken (first ∷ more)
 nothing_found first more not_blank none = record {
   first = first;
   more = more;
   split = refl;
   not_blank = not_blank;
-  no_token = λ kind text rest split is_token stops. let found = again kind text rest is_token stops in let same = ap front_token split in absurd cc;
+  no_token = λ kind text rest split is_token stops. let found = again kind text rest is_token stops in let same = ap token_prefix split in absurd cc;
 }
