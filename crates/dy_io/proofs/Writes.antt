@@ -1,4 +1,4 @@
--- Going on behind what was written so far.
+-- Going on after what was written so far.
 use Rattle.std.proofs.Common.{◌≡◌, ◌≢◌, ℕ, zero, suc, ◌+◌, ◌-◌, List, ◌++◌, length, take, drop, Option, Bool, false, ◌&&◌, eqb, refl, sym, ap, subst, ◌∙◌, arith}
 use Rattle.std.proofs.lemmas.List.{take_all, length-drop}
 use Rattle.std.proofs.Math.Dec.{eqb-suc-zero}

@@ -10,6 +10,6 @@ Came count before after = (bytes : List ℕ) × (length bytes ≡ count) × Cons
 abbrev pub CameAtMost : ℕ → Option (List ℕ) → Option (List ℕ) → Type 0
 CameAtMost most before after = (count : ℕ) × (count ≤ most) × Came count before after
 
--- What is held has grown by a front of the bytes.
-abbrev pub AppendsFront : Option (List ℕ) → Option (List ℕ) → List ℕ → Type 0
-AppendsFront before after bytes = (count : ℕ) × (count ≤ length bytes) × Appends before after (take count bytes)
+-- What is held has grown by a prefix of the bytes.
+abbrev pub AppendsPrefix : Option (List ℕ) → Option (List ℕ) → List ℕ → Type 0
+AppendsPrefix before after bytes = (count : ℕ) × (count ≤ length bytes) × Appends before after (take count bytes)

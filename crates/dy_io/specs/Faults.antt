@@ -1,5 +1,9 @@
 -- Counts of faults, by which an error is known to come from outside.
-use Rattle.std.specs.Prelude.{◌≡◌, ℕ, ◌+◌, ◌^◌, ◌<◌, ◌≤◌, Bool, true, false, ◌&&◌, ◌==◌, nat_lt, List, length, Result, Ok, Err}
+use Rattle.std.specs.Prelude.{min, ◌-◌, ◌≡◌, ℕ, ◌+◌, ◌^◌, ◌<◌, ◌≤◌, Bool, true, false, ◌&&◌, ◌==◌, nat_lt, List, length, Result, Ok, Err}
+
+-- One more of a count that is kept in 64 bits.
+abbrev pub one_more : ℕ → ℕ
+one_more count = min (count + 1) (2 ^ 64 - 1)
 
 -- A count rose. One that is kept in 64 bits stands still at its end, where nothing tells of one more.
 abbrev pub Rose : ℕ → ℕ → Type 0

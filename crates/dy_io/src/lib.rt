@@ -4,7 +4,9 @@
 //! its faults, so that a contract can say that an error came from outside.
 #![tactic(auto)]
 
-mod memory;
+mod errors;
+mod memory_sink;
+mod memory_source;
 mod plain;
 mod reading;
 mod sinks;
@@ -12,13 +14,15 @@ mod sources;
 mod standard;
 mod writing;
 
-pub use memory::{MemSink, MemSource};
+pub use errors::{ReadError, WriteError};
+pub use memory_sink::MemSink;
+pub use memory_source::MemSource;
 pub use plain::{PlainSink, PlainSource};
-pub use reading::{ReadError, read_all};
+pub use reading::read_all;
 pub use sinks::Sink;
 pub use sources::{Failed, Source};
-pub use standard::{StdinSource, StdoutSink};
-pub use writing::{WriteError, write_all};
+pub use standard::{ReaderSource, StdinSource, StdoutSink, WriterSink};
+pub use writing::write_all;
 
 #[cfg(test)]
 mod tests;

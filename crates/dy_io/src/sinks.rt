@@ -12,7 +12,7 @@ pub trait Sink {
     /// How many writes have failed. It never falls.
     ghost faults: { Self → ℕ };
 
-    /// Adds bytes from the front of `bytes`, and answers how many. It answers `Failed`, or 0 for a
+    /// Adds a prefix of `bytes`, and answers how long it is. It answers `Failed`, or 0 for a
     /// piece that is not empty, only where the count of faults rose.
     fn write(&mut self, bytes: &[u8]) -> Result<usize, Failed>
         ensures within { IfOk result (λ n. n ≤ length bytes.now) }

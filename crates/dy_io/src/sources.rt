@@ -14,7 +14,7 @@ pub trait Source {
     /// How many reads have failed. It never falls.
     ghost faults: { Self → ℕ };
 
-    /// Takes bytes into the front of `buf`, and answers how many. For a buffer with room, 0 is the
+    /// Takes bytes into the start of `buf`, and answers how many. For a buffer with room, 0 is the
     /// end of input. It answers `Failed` only where the count of faults rose.
     fn read(&mut self, buf: &mut [u8]) -> Result<usize, Failed>
         ensures within { IfOk result (λ n. n ≤ length buf.new) }

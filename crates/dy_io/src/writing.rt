@@ -1,24 +1,17 @@
 ghost use Rattle.std.specs.Prelude.{◌≡◌, ◌≤◌, OnOk, OnErr};
 ghost use Rattle.std.specs.Io.KnownBytes.{Appends};
-ghost use Rattle.dy_io.specs.Bytes.{AppendsFront};
+ghost use Rattle.dy_io.specs.Bytes.{AppendsPrefix};
 ghost use Rattle.dy_io.specs.Faults.{Rose};
 
+use crate::errors::WriteError;
 use crate::sinks::Sink;
-use thiserror::Error;
-
-/// Why not all could be written.
-#[derive(Clone, Copy, Debug, PartialEq, Eq, Error)]
-pub enum WriteError {
-    #[error("writing failed")]
-    Fault,
-}
 
 /// Writes all the bytes to a sink. It takes no memory of its own.
 ///
-/// `Fault` comes only where the sink's count of faults rose; a front of the bytes was added then.
+/// `Fault` comes only where the sink's count of faults rose; a prefix of the bytes was added then.
 pub fn write_all<K: Sink>(sink: &mut K, bytes: &[u8]) -> Result<(), WriteError>
     ensures written { OnOk result (Appends (K.held sink.old) (K.held sink.new) bytes.now) }
-    ensures front { OnErr result (AppendsFront (K.held sink.old) (K.held sink.new) bytes.now) }
+    ensures prefix { OnErr result (AppendsPrefix (K.held sink.old) (K.held sink.new) bytes.now) }
     ensures later { K.faults sink.old ≤ K.faults sink.new }
     ensures fault { OnErr result (Rose (K.faults sink.old) (K.faults sink.new)) }
     ensures no_fault { OnOk result (K.faults sink.new ≡ K.faults sink.old) }

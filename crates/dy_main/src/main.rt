@@ -1,4 +1,4 @@
-//! The program: the words behind its name, standard input and output, and an exit status.
+//! The program: the words after its name, standard input and output, and an exit status.
 #![tactic(auto)]
 
 use dy_io::{StdinSource, StdoutSink};
@@ -7,7 +7,7 @@ use std::env;
 use std::io::ErrorKind;
 use std::process::ExitCode;
 
-/// The words behind the program's name. Words that are no text are no words at all.
+/// The words after the program's name. Words that are no text are no words at all.
 fn words(rt: &HostRuntime) -> Result<Vec<String>, Status> {
     match env::args(rt) {
         Ok(args) => match args.skip(1).collect(rt.alloc()) {

@@ -1,5 +1,6 @@
 -- What is due, case by case.
 use Rattle.std.proofs.Common.{◌≡◌, ℕ, ◌≤◌, List, length, true, false, ap, ◌∙◌}
+use Rattle.dy_lex.specs.declared.limits.TheConstants.{MAX_SOURCE_BYTES}
 use Rattle.dy_syntax.specs.Files.{FileText}
 use Rattle.dy_syntax.specs.Rules.{is_well_formed}
 use Rattle.dy_parse.specs.Files.{Reads}
@@ -10,7 +11,7 @@ use Rattle.dy_tool.specs.Due.{IsProtocol, IsDueByCheck}
 use Rattle.dy_tool.specs.Texts.{refused_text, not_built}
 
 -- where the bytes are no protocol
-pub input_is_due : (bytes : List ℕ) (status : Status) (text : List ℕ) → length bytes ≤ 1048576 → ((file : FileText) → IsProtocol bytes file → ⊥) → (status ≡ Input) × (text ≡ not_built) → IsDueByCheck bytes status text
+pub input_is_due : (bytes : List ℕ) (status : Status) (text : List ℕ) → length bytes ≤ MAX_SOURCE_BYTES → ((file : FileText) → IsProtocol bytes file → ⊥) → (status ≡ Input) × (text ≡ not_built) → IsDueByCheck bytes status text
 input_is_due bytes status text few none is = rw is.0 (few, none, is.1)
 
 -- where the one file that the bytes are is not well formed

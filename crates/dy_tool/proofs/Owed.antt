@@ -2,6 +2,7 @@
 use Rattle.std.proofs.Common.{◌≡◌, ◌≢◌, ℕ, ◌+◌, List, [], length, Option, Some, None, IfSome, refl, sym, subst, ◌∙◌, inl, inr, arith}
 use Rattle.std.proofs.lemmas.List.{length-append}
 use Rattle.dy_io.specs.Bytes.{Came}
+use Rattle.dy_lex.specs.declared.limits.TheConstants.{MAX_SOURCE_BYTES}
 use Rattle.dy_tool.specs.declared.statuses.Status.{Status}
 use Rattle.dy_tool.specs.declared.statuses.Status.TheVariants.{Done, NotAccepted, Words, Input, ReadFault, WriteFault, Memory, TooLong}
 use Rattle.dy_tool.specs.Texts.{bad_words, too_long}
@@ -25,7 +26,7 @@ owes_words words None other = record { bytes = []; told = tt; due = (other, refl
 owes_words words (Some all) other = record { bytes = all; told = refl; due = (other, refl) }
 
 -- where too many bytes came
-pub owes_too_long : (words : List (List ℕ)) (left rest : Option (List ℕ)) → words ≡ check_words → Came 1048577 left rest → Owes words left TooLong too_long
+pub owes_too_long : (words : List (List ℕ)) (left rest : Option (List ℕ)) → words ≡ check_words → Came (MAX_SOURCE_BYTES + 1) left rest → Owes words left TooLong too_long
 owes_too_long words None rest same came = record { bytes = came.0; told = tt; due = (same, (omega (arith, came.1), refl)) }
 owes_too_long words (Some all) None same came = absurd came.2
 owes_too_long words (Some all) (Some rest) same came = record {

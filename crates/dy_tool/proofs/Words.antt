@@ -4,7 +4,7 @@ use Rattle.std.proofs.lemmas.Slice.Eq.{bytes_eq-Decides}
 use Rattle.std.specs.Prelude.{IsTrue}
 use Rattle.std.specs.Str.{bytes_eq}
 
--- a list of length 1 has one element, which is at its front
+-- a list of length 1 has one element, its first
 pub one_element : {A : Type 0} (xs : List A) (x : A) → 1 ≤ length xs → length xs < 2 → x ≡ get_or xs 0 x → xs ≡ x ∷ []
 one_element [] x least below x_is = absurd (omega arith)
 one_element (y ∷ []) x least below x_is = ap (λ z. z ∷ []) (sym x_is)

@@ -1,5 +1,6 @@
 -- Which status and which text are due, for the words and for the bytes that the source has.
 use Rattle.std.specs.Prelude.{◌≡◌, ◌≢◌, ℕ, ◌<◌, ◌≤◌, true, List, [], ◌∷◌, length, codes}
+use Rattle.dy_lex.specs.declared.limits.TheConstants.{MAX_SOURCE_BYTES}
 use Rattle.dy_syntax.specs.Files.{FileText, handlers_in}
 use Rattle.dy_syntax.specs.Rules.{is_well_formed}
 use Rattle.dy_parse.specs.Files.{Reads}
@@ -14,16 +15,21 @@ pub record IsProtocol (bytes : List ℕ) (file : FileText) : Type 0 where
   pub reads : Reads bytes file
   pub well_formed : is_well_formed file ≡ true
 
--- In every interleaving of a file that the bytes are, each event stands behind its partners.
+-- In every interleaving of a file that the bytes are, each event stands after its partners.
 abbrev pub OrderIsKept : List ℕ → Type 0
-OrderIsKept bytes = (file : FileText) (T : List Entry) → IsProtocol bytes file → Interleaves bytes file T → KeepsOrder file.decls T
+OrderIsKept bytes = (file : FileText) (T : List Entry) →
+    IsProtocol bytes file → Interleaves bytes file T → KeepsOrder file.decls T
 
 -- what `check` is to answer for these bytes
 abbrev pub IsDueByCheck : List ℕ → Status → List ℕ → Type 0
-IsDueByCheck bytes Done text = (file : FileText) × IsProtocol bytes file × IsTyped file × (text ≡ accepted_text (length (handlers_in file.decls)))
-IsDueByCheck bytes NotAccepted text = (file : FileText) × (line : ℕ) × (field : ℕ) × IsProtocol bytes file × IsRefused file line field × (text ≡ refused_text line 6 field)
-IsDueByCheck bytes Input text = (length bytes ≤ 1048576) × ((file : FileText) → IsProtocol bytes file → ⊥) × (text ≡ not_built)
-IsDueByCheck bytes TooLong text = (1048576 < length bytes) × (text ≡ too_long)
+IsDueByCheck bytes Done text =
+    (file : FileText) × IsProtocol bytes file × IsTyped file × (text ≡ accepted_text (length (handlers_in file.decls)))
+IsDueByCheck bytes NotAccepted text =
+    (file : FileText) × (line : ℕ) × (field : ℕ) × IsProtocol bytes file × IsRefused file line field
+    × (text ≡ refused_text line 6 field)
+IsDueByCheck bytes Input text =
+    (length bytes ≤ MAX_SOURCE_BYTES) × ((file : FileText) → IsProtocol bytes file → ⊥) × (text ≡ not_built)
+IsDueByCheck bytes TooLong text = (MAX_SOURCE_BYTES < length bytes) × (text ≡ too_long)
 IsDueByCheck bytes Words text = ⊥
 IsDueByCheck bytes ReadFault text = ⊥
 IsDueByCheck bytes WriteFault text = ⊥

@@ -1,5 +1,6 @@
-ghost use Rattle.std.specs.Prelude.{◌≡◌, ◌≢◌, ◌≤◌, ◌↔◌, ◌⊎◌, map, IfSome, IsTrue, string_bytes};
+ghost use Rattle.std.specs.Prelude.{◌≡◌, ◌≢◌, ◌+◌, ◌≤◌, ◌↔◌, ◌⊎◌, map, IfSome, IsTrue, string_bytes};
 ghost use Rattle.std.specs.Io.KnownBytes.{Keeps};
+ghost use Rattle.dy_io.specs.Bytes.{CameAtMost};
 ghost use Rattle.dy_io.specs.Faults.{Rose};
 ghost use Rattle.dy_tool.specs.Answers.{Leaves, Says};
 ghost use Rattle.dy_tool.specs.Due.{check_words, OrderIsKept};
@@ -8,12 +9,10 @@ use crate::judging::judge;
 use crate::laws::accepted_keeps_order;
 use crate::statuses::Status;
 use dy_io::{ReadError, Sink, Source, WriteError, read_all, write_all};
+use dy_lex::MAX_SOURCE_BYTES;
 use std::alloc::Global;
 
-/// The most bytes that an input may have.
-const LIMIT: usize = 1_048_576;
-
-/// Carries out the command of these words, which are those behind the program's name. The one list
+/// Carries out the command of these words, which are those after the program's name. The one list
 /// that is accepted is `check`: it reads a protocol file and writes the verdict on it.
 ///
 /// The refusals come in this order: the words, a read fault or the length as the bytes come, the
@@ -30,9 +29,18 @@ pub fn quiet<S: Source, K: Sink>(
     // Where it is Done, every interleaving of the bytes keeps the order of events.
     ensures order { result ≡ Status.Done → IfSome (S.left source.old) OrderIsKept }
 
-    // With refused words nothing is read, and no memory is wanted.
-    ensures refused { map string_bytes words.now ≢ check_words → (result ≡ Status.Words) ⊎ (result ≡ Status.WriteFault) }
-    ensures unread { map string_bytes words.now ≢ check_words → Keeps (S.left source.old) (S.left source.new) × (S.faults source.new ≡ S.faults source.old) }
+    // At most one byte past the limit is taken, and that one only where neither reading nor memory failed.
+    ensures taken { CameAtMost (MAX_SOURCE_BYTES + 1) (S.left source.old) (S.left source.new) }
+    ensures fault_within { result ≡ Status.ReadFault →
+        CameAtMost MAX_SOURCE_BYTES (S.left source.old) (S.left source.new) }
+    ensures memory_within { result ≡ Status.Memory →
+        CameAtMost MAX_SOURCE_BYTES (S.left source.old) (S.left source.new) }
+
+    // With refused words nothing is read, and memory does not run out.
+    ensures refused { map string_bytes words.now ≢ check_words →
+        (result ≡ Status.Words) ⊎ (result ≡ Status.WriteFault) }
+    ensures unread { map string_bytes words.now ≢ check_words →
+        Keeps (S.left source.old) (S.left source.new) × (S.faults source.new ≡ S.faults source.old) }
 
     // A fault comes only where the count rose, and where it rose nothing else comes.
     ensures read_fault { result ≡ Status.ReadFault → Rose (S.faults source.old) (S.faults source.new) }
@@ -45,7 +53,7 @@ pub fn quiet<S: Source, K: Sink>(
     if !is_check(words) {
         return say(sink, Status::Words, b"bad words\n");
     }
-    match read_all(alloc, source, LIMIT) {
+    match read_all(alloc, source, MAX_SOURCE_BYTES) {
         Ok(bytes) => match judge(alloc, &bytes) {
             Ok(answer) => {
                 accepted_keeps_order();

@@ -6,6 +6,7 @@ ghost use Rattle.dy_tool.specs.Texts as texts;
 
 use crate::statuses::Status;
 use dy_check::{Verdict, check};
+use dy_lex::MAX_SOURCE_BYTES;
 use dy_parse::{ParseError, parse};
 use dy_syntax::{Decl, File, is_well_formed};
 use dy_term::Memory;
@@ -18,9 +19,9 @@ pub(crate) struct Answer {
     pub(crate) text: String,
 }
 
-/// The answer of `check` for an input of at most 1,048,576 bytes.
+/// The answer of `check` for an input of at most `MAX_SOURCE_BYTES` bytes.
 pub(crate) fn judge(alloc: Global, bytes: &[u8]) -> Result<Answer, Memory>
-    requires { length bytes.now ≤ 1048576 }
+    requires { length bytes.now ≤ MAX_SOURCE_BYTES }
     ensures { IfOk result (λ a. IsDueByCheck bytes.now a.status (string_bytes a.text)) }
 {
     let file = match parse(alloc, bytes) {
@@ -48,7 +49,8 @@ fn not_built(alloc: Global) -> Result<Answer, Memory>
 }
 
 fn accepted(alloc: Global, handlers: usize) -> Result<Answer, Memory>
-    ensures { IfOk result (λ a. (a.status ≡ Status.Done) × (string_bytes a.text ≡ texts.accepted_text handlers)) }
+    ensures { IfOk result (λ a.
+        (a.status ≡ Status.Done) × (string_bytes a.text ≡ texts.accepted_text handlers)) }
 {
     answer_with(
         Status::Done,
@@ -57,7 +59,8 @@ fn accepted(alloc: Global, handlers: usize) -> Result<Answer, Memory>
 }
 
 fn refused(alloc: Global, line: u32, condition: u8, field: u8) -> Result<Answer, Memory>
-    ensures { IfOk result (λ a. (a.status ≡ Status.NotAccepted) × (string_bytes a.text ≡ texts.refused_text line condition field)) }
+    ensures { IfOk result (λ a.
+        (a.status ≡ Status.NotAccepted) × (string_bytes a.text ≡ texts.refused_text line condition field)) }
 {
     answer_with(
         Status::NotAccepted,

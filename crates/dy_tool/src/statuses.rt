@@ -16,9 +16,9 @@ pub enum Status {
     ReadFault,
     /// The sink failed.
     WriteFault,
-    /// Memory was wanting.
+    /// There was no memory for more.
     Memory,
-    /// More than 1,048,576 bytes came.
+    /// More bytes came than a source may have.
     TooLong,
 }
 

@@ -2,6 +2,7 @@ ghost use Rattle.std.specs.Prelude.{◌<◌};
 
 use super::*;
 use dy_io::{MemSink, MemSource};
+use dy_lex::MAX_SOURCE_BYTES;
 use std::alloc::{AllocError, Global};
 use std::process::Abort;
 use std::test::*;
@@ -86,7 +87,7 @@ fn assert_answers(
 }
 
 #[test]
-fn an_event_behind_its_partner_is_accepted(rt: HostRuntime) -> Result<(), Fail> {
+fn an_event_after_its_partner_is_accepted(rt: HostRuntime) -> Result<(), Fail> {
     assert_answers(&rt, JOB, Status::Done, b"accepted 1 handlers\n")?;
     // a variable may have the name of a handler, an event or a handler the same
     let renamed = b"dystar 1
@@ -191,7 +192,7 @@ fn what_is_no_file_is_not_built(rt: HostRuntime) -> Result<(), Fail> {
 
 #[test]
 fn one_byte_past_the_limit_is_too_long(rt: HostRuntime) -> Result<(), Fail> {
-    let mut input = vec![in rt.alloc(); b' '; 1_048_576]?;
+    let mut input = vec![in rt.alloc(); b' '; MAX_SOURCE_BYTES]?;
     for (place, byte) in input.iter_mut().zip(b"dystar 1") {
         *place = *byte;
     }
@@ -230,7 +231,7 @@ fn refused_words_read_nothing(rt: HostRuntime) -> Result<(), Fail> {
 
 #[test]
 fn each_read_that_fails_leaves_nothing_written(rt: HostRuntime) -> Result<(), Fail> {
-    // the reads that a piece takes, and the one behind the last byte
+    // the reads that a piece takes, and the one after the last byte
     for (piece, reads) in [(1, 188), (7, 28), (40, 6)] {
         for failing_read in 1..=reads {
             let outside = Outside {
@@ -251,7 +252,7 @@ fn each_read_that_fails_leaves_nothing_written(rt: HostRuntime) -> Result<(), Fa
 }
 
 #[test]
-fn each_write_that_fails_leaves_a_front(rt: HostRuntime) -> Result<(), Fail> {
+fn each_write_that_fails_leaves_a_prefix(rt: HostRuntime) -> Result<(), Fail> {
     let text: &[u8] = b"accepted 1 handlers\n";
     for (piece, writes) in [(1, 20), (7, 3), (40, 1)] {
         for failing_write in 1..=writes {

@@ -1,5 +1,6 @@
-use Rattle.std.proofs.Common.{map, subst}
+use Rattle.std.proofs.Common.{◌+◌, map, subst, arith}
 use Rattle.std.specs.Prelude.{string_bytes}
+use Rattle.dy_lex.specs.declared.limits.TheConstants.{MAX_SOURCE_BYTES}
 use Rattle.dy_tool.specs.declared.statuses.Status.{Status}
 use Rattle.dy_tool.specs.Due.{IsDueByCheck, OrderIsKept}
 use Rattle.dy_tool.specs.Answers.{Owes}
@@ -39,3 +40,6 @@ returns-in-Ok-judge-clause-order g c = λ done.
     let judged : IsDueByCheck bytes answer.status text = rw c.deref.ensures.value at c.in-Ok-judge.ensures in
     let is_done = said_done _ _ _ _ answer.status text _ (rw c.as_bytes.ensures.value at c.say-in-Ok-judge.ensures) done in
     told_holds OrderIsKept (g.S.Source.left c.args.source.now) bytes c.in-Ok.ensures.whole (c.accepted_keeps_order.ensures bytes text (subst (λ (status : Status). IsDueByCheck bytes status text) is_done judged))
+
+pub returns-in-Err-TooLong-clause-taken : goal.returns-in-Err-TooLong-clause-taken
+returns-in-Err-TooLong-clause-taken g c = (MAX_SOURCE_BYTES + 1, (omega arith), c.in-Err-TooLong.ensures.too_long (cc))
