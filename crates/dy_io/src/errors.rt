@@ -1,11 +1,11 @@
 ghost use Rattle.std.specs.Prelude.{Some};
 ghost use Rattle.dy_io.specs.Messages.{read_message, write_message};
 
-use std::error::Error;
 use std::fmt;
+use thiserror::Error;
 
 /// Why not all of a source could be read.
-#[derive(Clone, Copy, Debug, PartialEq, Eq)]
+#[derive(Clone, Copy, Debug, PartialEq, Eq, Error)]
 pub enum ReadError {
     /// The source failed.
     Fault,
@@ -27,10 +27,8 @@ impl fmt::Display for ReadError {
     }
 }
 
-impl Error for ReadError {}
-
 /// Why not all could be written.
-#[derive(Clone, Copy, Debug, PartialEq, Eq)]
+#[derive(Clone, Copy, Debug, PartialEq, Eq, Error)]
 pub enum WriteError {
     /// The sink failed.
     Fault,
@@ -45,5 +43,3 @@ impl fmt::Display for WriteError {
         }
     }
 }
-
-impl Error for WriteError {}

@@ -55,7 +55,8 @@ impl Sink for MemSink {
         // else only where there was no room.
         ensures piece { IfOk result (λ n. n ≡ min self.old.piece (length bytes.now)) }
         ensures fails { Contains self.old.failing.items self.new.calls → IsErr result }
-        ensures fails_only { vec_len self.old.held + min self.old.piece (length bytes.now) ≤ vec_capacity self.old.held →
+        ensures fails_only { let n = min self.old.piece (length bytes.now) in
+            vec_len self.old.held + n ≤ vec_capacity self.old.held →
             IsErr result → Contains self.old.failing.items self.new.calls }
         ensures calls { self.new.calls ≡ one_more self.old.calls }
         ensures faults { self.new.faults ≡ (if is_err result then one_more self.old.faults else self.old.faults) }

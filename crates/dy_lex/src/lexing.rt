@@ -6,11 +6,11 @@ use crate::limits::MAX_SOURCE_BYTES;
 use crate::prefixes::{is_blank, token_prefix};
 use crate::tokens::Token;
 use std::alloc::Global;
-use std::error::Error;
 use std::fmt;
+use thiserror::Error;
 
 /// Why a source has no tokens.
-#[derive(Clone, Copy, Debug, PartialEq, Eq)]
+#[derive(Clone, Copy, Debug, PartialEq, Eq, Error)]
 pub enum LexError {
     /// On this line a byte that begins no token stands where one is due.
     Bad { line: u32 },
@@ -29,10 +29,8 @@ impl fmt::Display for LexError {
     }
 }
 
-impl Error for LexError {}
-
-/// The tokens of a source of at most `MAX_SOURCE_BYTES` bytes, each a slice of it. `Bad` comes exactly
-/// where a byte that is no blank begins no token, and names its line.
+/// The tokens of a source of at most `MAX_SOURCE_BYTES` bytes, each a slice of it. `Bad` comes only
+/// where a byte that is no blank begins no token; it names the line of the first such byte.
 pub fn lex<'a>(alloc: Global, source: &'a [u8]) -> Result<Vec<Token<'a>>, LexError>
     requires { length source.now ≤ MAX_SOURCE_BYTES }
     ensures tokens { IfOk result (λ tokens. Spells (pieces_of tokens.items) 0 1 source.now) }
