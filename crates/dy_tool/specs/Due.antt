@@ -1,5 +1,6 @@
 -- Which status and which text are due, for the words and for the bytes that the source has.
-use Rattle.std.specs.Prelude.{◌≡◌, ◌≢◌, ℕ, ◌<◌, ◌≤◌, true, List, [], ◌∷◌, length, codes}
+use Rattle.std.specs.Prelude.{◌≡◌, ◌≢◌, ℕ, ◌<◌, ◌≤◌, true, List, [], ◌∷◌, length, map, codes, String, string_bytes}
+use Rattle.std.specs.declared.alloc.Global.{Global}
 use Rattle.dy_lex.specs.declared.limits.TheConstants.{MAX_SOURCE_BYTES}
 use Rattle.dy_syntax.specs.Files.{FileText, handlers_in}
 use Rattle.dy_syntax.specs.Rules.{is_well_formed}
@@ -34,6 +35,10 @@ IsDueByCheck bytes Words text = ⊥
 IsDueByCheck bytes ReadFault text = ⊥
 IsDueByCheck bytes WriteFault text = ⊥
 IsDueByCheck bytes Memory text = ⊥
+
+-- the words as lists of bytes
+abbrev pub words_of : List (String Global) → List (List ℕ)
+words_of words = map string_bytes words
 
 -- the one list of words that is accepted
 abbrev pub check_words : List (List ℕ)

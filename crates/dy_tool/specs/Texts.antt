@@ -9,7 +9,8 @@ accepted_text handlers = codes "accepted " ++ decimal handlers ++ codes " handle
 -- refused line L cK field F
 abbrev pub refused_text : ℕ → ℕ → ℕ → List ℕ
 refused_text line condition field =
-    codes "refused line " ++ decimal line ++ codes " c" ++ decimal condition ++ codes " field " ++ decimal field ++ codes "\n"
+    codes "refused line " ++ decimal line ++ codes " c" ++ decimal condition
+    ++ codes " field " ++ decimal field ++ codes "\n"
 
 abbrev pub bad_words : List ℕ
 bad_words = codes "bad words\n"

@@ -1,9 +1,9 @@
-ghost use Rattle.std.specs.Prelude.{◌≡◌, ◌≢◌, ◌+◌, ◌≤◌, ◌↔◌, ◌⊎◌, map, IfSome, IsTrue, string_bytes};
+ghost use Rattle.std.specs.Prelude.{◌≡◌, ◌≢◌, ◌+◌, ◌≤◌, ◌↔◌, ◌⊎◌, IfSome, IsTrue};
 ghost use Rattle.std.specs.Io.KnownBytes.{Keeps};
 ghost use Rattle.dy_io.specs.Bytes.{CameAtMost};
 ghost use Rattle.dy_io.specs.Faults.{Rose};
 ghost use Rattle.dy_tool.specs.Answers.{Leaves, Says};
-ghost use Rattle.dy_tool.specs.Due.{check_words, OrderIsKept};
+ghost use Rattle.dy_tool.specs.Due.{check_words, words_of, OrderIsKept};
 
 use crate::judging::judge;
 use crate::laws::accepted_keeps_order;
@@ -24,7 +24,7 @@ pub fn quiet<S: Source, K: Sink>(
     sink: &mut K,
 ) -> Status
     // The status and the text are those that are due.
-    ensures leaves { Leaves (map string_bytes words.now) (S.left source.old) (K.held sink.old) (K.held sink.new) result }
+    ensures leaves { Leaves (words_of words.now) (S.left source.old) (K.held sink.old) (K.held sink.new) result }
 
     // Where it is Done, every interleaving of the bytes keeps the order of events.
     ensures order { result ≡ Status.Done → IfSome (S.left source.old) OrderIsKept }
@@ -37,9 +37,9 @@ pub fn quiet<S: Source, K: Sink>(
         CameAtMost MAX_SOURCE_BYTES (S.left source.old) (S.left source.new) }
 
     // With refused words nothing is read, and memory does not run out.
-    ensures refused { map string_bytes words.now ≢ check_words →
+    ensures refused { words_of words.now ≢ check_words →
         (result ≡ Status.Words) ⊎ (result ≡ Status.WriteFault) }
-    ensures unread { map string_bytes words.now ≢ check_words →
+    ensures unread { words_of words.now ≢ check_words →
         Keeps (S.left source.old) (S.left source.new) × (S.faults source.new ≡ S.faults source.old) }
 
     // A fault comes only where the count rose, and where it rose nothing else comes.
@@ -69,7 +69,7 @@ pub fn quiet<S: Source, K: Sink>(
 
 /// Whether the words are the one word `check`.
 fn is_check(words: &[String]) -> bool
-    ensures { IsTrue result ↔ (map string_bytes words.now ≡ check_words) }
+    ensures { IsTrue result ↔ (words_of words.now ≡ check_words) }
 {
     match words {
         [word] => word.as_str() == "check",
