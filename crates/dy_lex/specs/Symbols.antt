@@ -3,6 +3,7 @@ use Rattle.std.specs.Prelude.{◌≡◌, ℕ, Bool, true, false, not, ◌&&◌, 
 use Rattle.std.specs.List.{list_all, list_any}
 use Rattle.std.specs.Char.{is_ascii_digit}
 use Rattle.dy_term.specs.Characters.{is_word_byte, is_long_word, is_long_text, quoted}
+use Rattle.dy_lex.specs.declared.limits.TheConstants.{MAX_DIGITS}
 use Rattle.dy_lex.specs.declared.tokens.TokenKind.{TokenKind}
 use Rattle.dy_lex.specs.declared.tokens.TokenKind.TheVariants.{Word, Number, Text, Symbol}
 
@@ -15,7 +16,7 @@ abbrev pub is_number : List ℕ → Bool
 is_number [] = false
 is_number (b ∷ []) = is_ascii_digit b
 is_number (b ∷ c ∷ more) =
-    (is_ascii_digit b && not (b == 48)) && (list_all is_ascii_digit (c ∷ more) && nat_le (length (c ∷ more)) 5)
+    (is_ascii_digit b && not (b == 48)) && (list_all is_ascii_digit (c ∷ more) && nat_le (length (b ∷ c ∷ more)) MAX_DIGITS)
 
 -- a symbol of one byte
 abbrev pub is_mark : ℕ → Bool

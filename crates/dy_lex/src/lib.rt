@@ -9,7 +9,7 @@ mod tokens;
 
 pub use laws::one_reading;
 pub use lexing::{LexError, lex};
-pub use limits::MAX_SOURCE_BYTES;
+pub use limits::{MAX_DIGITS, MAX_SOURCE_BYTES};
 pub use tokens::{Token, TokenKind};
 
 #[cfg(test)]

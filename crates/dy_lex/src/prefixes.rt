@@ -5,6 +5,7 @@ ghost use Rattle.dy_term.specs.Characters as chars;
 ghost use Rattle.dy_lex.specs.Symbols as symbols;
 ghost use Rattle.dy_lex.specs.MirrorPrefixes as mirror;
 
+use crate::limits::MAX_DIGITS;
 use crate::tokens::TokenKind;
 use dy_term::characters::{is_text_byte, is_word_byte};
 
@@ -53,7 +54,7 @@ fn is_number(bytes: &[u8]) -> bool
         [] => false,
         [digit] => digit.is_ascii_digit(),
         [first, more @ ..] => {
-            (first.is_ascii_digit() && *first != b'0') && (are_digits(more) && more.len() <= 5)
+            (first.is_ascii_digit() && *first != b'0') && (are_digits(more) && bytes.len() <= MAX_DIGITS)
         }
     }
 }
