@@ -18,22 +18,22 @@ run_of (labels.One reader) = One reader ∷ []
 run_of (labels.Join first second) = (run_of first ++ run_of second) ++ Join (length (run_of first ++ run_of second) + 1) ∷ []
 run_of (labels.Meet first second) = (run_of first ++ run_of second) ++ Meet (length (run_of first ++ run_of second) + 1) ∷ []
 
--- the runs of some labels, the last label first, one run behind the other
+-- the runs of some labels, the last label first, one run after the other
 abbrev pub runs_of : List labels.Label → List Node
 runs_of [] = []
 runs_of (label ∷ before) = runs_of before ++ run_of label
 
--- the labels that stand finished behind a node, the last one first
-abbrev pub behind : List labels.Label → Node → List labels.Label
-behind before Public = labels.Public ∷ before
-behind before Nobody = labels.Nobody ∷ before
-behind before (One reader) = labels.One reader ∷ before
-behind before (Join nodes) = labels.with_last_two labels.Join before
-behind before (Meet nodes) = labels.with_last_two labels.Meet before
+-- the labels that stand finished after a node, the last one first
+abbrev pub labels_after : List labels.Label → Node → List labels.Label
+labels_after before Public = labels.Public ∷ before
+labels_after before Nobody = labels.Nobody ∷ before
+labels_after before (One reader) = labels.One reader ∷ before
+labels_after before (Join nodes) = labels.with_last_two labels.Join before
+labels_after before (Meet nodes) = labels.with_last_two labels.Meet before
 
 abbrev pub labels_from : List labels.Label → List Node → List labels.Label
 labels_from before [] = before
-labels_from before (node ∷ nodes) = labels_from (behind before node) nodes
+labels_from before (node ∷ nodes) = labels_from (labels_after before node) nodes
 
 -- the labels whose runs the nodes are, the last one first
 abbrev pub labels_in : List Node → List labels.Label

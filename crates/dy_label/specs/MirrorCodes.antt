@@ -5,7 +5,7 @@ use Rattle.std.proofs.Common.{ap, sym, ◌∙◌, append_assoc}
 use Rattle.std.proofs.lemmas.List.{append-nil}
 use Rattle.dy_label.specs.Labels as labels
 use Rattle.dy_label.specs.Labels.{Principal, Session, Version}
-use Rattle.dy_label.specs.LabelRuns.{Node, Public, Nobody, One, Join, Meet, run_of, last, labels_from, label_in}
+use Rattle.dy_label.specs.MirrorRuns.{Node, Public, Nobody, One, Join, Meet, run_of, last, labels_from, label_in}
 
 abbrev numbers_of : Node → ℕ × (ℕ × (ℕ × List ℕ))
 numbers_of Public = (0, (0, (0, [])))
@@ -33,7 +33,7 @@ node_of-numbers_of (Meet nodes) = refl
 abbrev pub nodes_code : Coded (List Node)
 nodes_code = coded_list (code_by (ℕ × (ℕ × (ℕ × List ℕ))) (coded× coded_ℕ (coded× coded_ℕ (coded× coded_ℕ (coded_list coded_ℕ)))) numbers_of node_of node_of-numbers_of)
 
--- a run stands for its label, and what follows is read behind it
+-- a run stands for its label, and what follows is read after it
 pub labels_from-run_of : (before : List labels.Label) (label : labels.Label) (nodes : List Node) → labels_from before (run_of label ++ nodes) ≡ labels_from (label ∷ before) nodes
 labels_from-run_of before labels.Public nodes = refl
 labels_from-run_of before labels.Nobody nodes = refl

@@ -5,7 +5,7 @@ use Rattle.dy_label.specs.declared.label_nodes.Node.TheVariants as code
 use Rattle.dy_label.specs.declared.label_nodes.Whole.{Whole}
 use Rattle.dy_label.specs.declared.label_nodes.Whole.TheVariants as kinds
 use Rattle.dy_label.specs.Labels.{Label, Join, Meet}
-use Rattle.dy_label.specs.LabelRuns as runs
+use Rattle.dy_label.specs.MirrorRuns as runs
 use Rattle.dy_label.specs.LabelsMeaning.{place_of_reader}
 
 abbrev pub node_of : Node → runs.Node
