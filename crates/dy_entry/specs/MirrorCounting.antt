@@ -1,13 +1,13 @@
--- One entry more is counted.
+-- One more entry is counted.
 use Rattle.std.specs.Prelude.{ℕ, ◌+◌, ◌<◌, ◌^◌, Bool, if◌then◌else◌}
 use Rattle.dy_entry.specs.Entries.{Entry}
-use Rattle.dy_entry.specs.Summaries.{Summary, is_start, is_fresh, is_message, is_state, is_event, is_cert, is_done, is_stopped, is_corrupt, is_forge, is_inject, is_skip}
+use Rattle.dy_entry.specs.Summaries.{Counts, is_start, is_fresh, is_message, is_state, is_event, is_cert, is_done, is_stopped, is_corrupt, is_forge, is_inject, is_skip}
 
 abbrev pub one_more_if : Bool → ℕ → ℕ
 one_more_if counted number = if counted then number + 1 else number
 
--- the counts with one entry more
-abbrev pub with_entry : Summary → Entry → Summary
+-- the counts with one more entry
+abbrev pub with_entry : Counts → Entry → Counts
 with_entry s e = record {
   total = s.total + 1;
   start = one_more_if (is_start e) s.start;
@@ -25,7 +25,7 @@ with_entry s e = record {
 }
 
 -- Each count may rise by one.
-pub record HasRoom (s : Summary) : Type 0 where
+pub record HasRoom (s : Counts) : Type 0 where
   pub total : s.total + 1 < 2 ^ 32
   pub start : s.start + 1 < 2 ^ 32
   pub fresh : s.fresh + 1 < 2 ^ 32
