@@ -1,6 +1,6 @@
 ghost use Rattle.std.specs.Prelude.{◌≡◌, ◌≢◌, ◌++◌, [], ◌∷◌, true, false, map, OnErr, OnOk};
-ghost use Rattle.dy_label.specs.LabelRuns.{run_length, EndsWithRun, EndsWithTwoRuns, SplitsLastRun, CountsTwoRuns};
-ghost use Rattle.dy_label.specs.NodesMeaning.{node_of, whole_node};
+ghost use Rattle.dy_label.specs.MirrorRuns.{run_length, EndsWithRun, EndsWithTwoRuns, SplitsLastRun, CountsTwoRuns};
+ghost use Rattle.dy_label.specs.MirrorNodes.{node_of, whole_node};
 
 use crate::readers::Reader;
 use dy_term::Memory;
@@ -87,7 +87,7 @@ pub(crate) fn same_nodes(first: &[Node], second: &[Node]) -> bool
     true
 }
 
-/// Adds a node, or leaves the nodes as they were where memory is wanting.
+/// Adds a node, or leaves the nodes as they were out of memory.
 pub(crate) fn push(nodes: &mut Vec<Node>, node: Node) -> Result<(), Memory>
     ensures ok { OnOk result (nodes.new.items ≡ nodes.old.items ++ node ∷ []) }
     ensures err { OnErr result (nodes.new.items ≡ nodes.old.items) }
@@ -98,7 +98,7 @@ pub(crate) fn push(nodes: &mut Vec<Node>, node: Node) -> Result<(), Memory>
     }
 }
 
-/// Moves nodes to the end, or answers that memory is wanting.
+/// Moves nodes to the end, or refuses out of memory.
 pub(crate) fn append(nodes: &mut Vec<Node>, more: Vec<Node>) -> Result<(), Memory>
     ensures ok { OnOk result (nodes.new.items ≡ nodes.old.items ++ more.items) }
     ensures err { OnErr result (nodes.new.items ≡ nodes.old.items) }

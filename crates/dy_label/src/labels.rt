@@ -1,8 +1,8 @@
-ghost use Rattle.std.specs.Prelude.{◌≡◌, ◌≢◌, ◌⊎◌, ◌++◌, true, false, map, IfOk};
+ghost use Rattle.std.specs.Prelude.{◌≡◌, ◌≢◌, ◌≤◌, ◌⊎◌, ◌++◌, true, false, map, length, IfOk};
 ghost use Rattle.dy_label.specs.Labels as labels;
-ghost use Rattle.dy_label.specs.LabelRuns.{run_of, last_node, nodes_of_parts, IsRun, AreTwoRuns, label_in};
+ghost use Rattle.dy_label.specs.MirrorRuns.{run_of, last_node, nodes_of_parts, IsRun, AreTwoRuns, label_in};
 ghost use Rattle.dy_label.specs.LabelsMeaning.{place_of_reader, place_of_corruption};
-ghost use Rattle.dy_label.specs.NodesMeaning.{node_of, whole_of};
+ghost use Rattle.dy_label.specs.MirrorNodes.{node_of, whole_of};
 ghost use Rattle.dy_label.specs.ShapesMeaning.{label_of_shape};
 
 use crate::label_nodes::{Node, Whole, append, push, same_nodes, split_last_run};
@@ -20,15 +20,15 @@ pub struct Label {
 
 impl Model for Label {
     ghost use Rattle.dy_label.specs.Labels.{Label};
-    ghost use Rattle.dy_label.specs.LabelCodes.{label_code};
+    ghost use Rattle.dy_label.specs.MirrorCodes.{label_code};
 
     ghost Value = { Label };
 
     ghost coded = { label_code };
 
     ghost use Rattle.std.specs.Prelude.{map};
-    ghost use Rattle.dy_label.specs.LabelRuns.{label_in, IsRun};
-    ghost use Rattle.dy_label.specs.NodesMeaning.{node_of};
+    ghost use Rattle.dy_label.specs.MirrorRuns.{label_in, IsRun};
+    ghost use Rattle.dy_label.specs.MirrorNodes.{node_of};
 
     ghost view = { λ l. label_in (map node_of l.nodes.items) };
 
@@ -43,15 +43,15 @@ pub struct LabelView<'a> {
 
 impl<'a> Model for LabelView<'a> {
     ghost use Rattle.dy_label.specs.Labels.{Label};
-    ghost use Rattle.dy_label.specs.LabelCodes.{label_code};
+    ghost use Rattle.dy_label.specs.MirrorCodes.{label_code};
 
     ghost Value = { Label };
 
     ghost coded = { label_code };
 
     ghost use Rattle.std.specs.Prelude.{map};
-    ghost use Rattle.dy_label.specs.LabelRuns.{label_in, IsRun};
-    ghost use Rattle.dy_label.specs.NodesMeaning.{node_of};
+    ghost use Rattle.dy_label.specs.MirrorRuns.{label_in, IsRun};
+    ghost use Rattle.dy_label.specs.MirrorNodes.{node_of};
 
     ghost view = { λ l. label_in (map node_of l.nodes.now) };
 
@@ -101,7 +101,7 @@ impl Label {
     pub fn join(self, second: Label) -> Result<Label, Memory>
         ensures { IfOk result (λ label. label ≡ labels.Join self second) }
     {
-        made_of(Whole::Join, self, second)
+        label_of_two(Whole::Join, self, second)
     }
 
     /// The label that is open where both are. This moves the nodes of `second`; a label of many
@@ -109,7 +109,7 @@ impl Label {
     pub fn meet(self, second: Label) -> Result<Label, Memory>
         ensures { IfOk result (λ label. label ≡ labels.Meet self second) }
     {
-        made_of(Whole::Meet, self, second)
+        label_of_two(Whole::Meet, self, second)
     }
 
     /// Whether the two are the same label.
@@ -120,6 +120,7 @@ impl Label {
         same_nodes(&self.nodes, &other.nodes)
     }
 
+    /// An equal label, in memory of its own.
     pub fn copy(&self, alloc: Global) -> Result<Label, Memory>
         ensures { IfOk result (λ label. label ≡ self.now) }
     {
@@ -138,7 +139,7 @@ impl Label {
 }
 
 /// The label of this kind whose parts the two are.
-fn made_of(whole: Whole, first: Label, second: Label) -> Result<Label, Memory>
+fn label_of_two(whole: Whole, first: Label, second: Label) -> Result<Label, Memory>
     ensures { IfOk result (λ label. label ≡ whole_of whole first second) }
 {
     let mut nodes = parts(first, second)?;
@@ -147,7 +148,7 @@ fn made_of(whole: Whole, first: Label, second: Label) -> Result<Label, Memory>
     Ok(Label { nodes })
 }
 
-/// The nodes of the two labels, one behind the other.
+/// The nodes of the two labels, one after the other.
 fn parts(first: Label, second: Label) -> Result<Vec<Node>, Memory>
     ensures { IfOk result (λ nodes. map node_of nodes.items ≡ run_of first ++ run_of second) }
 {
@@ -247,8 +248,9 @@ fn is_view_open(label: LabelView<'_>, corruptions: &[Corruption]) -> bool
 
 /// The two labels, the one of fewer nodes first.
 fn smaller_first<'a>(first: LabelView<'a>, second: LabelView<'a>) -> (LabelView<'a>, LabelView<'a>)
-    ensures { ((result.0 ≡ first.entry) × (result.1 ≡ second.entry))
+    ensures both { ((result.0 ≡ first.entry) × (result.1 ≡ second.entry))
         ⊎ ((result.0 ≡ second.entry) × (result.1 ≡ first.entry)) }
+    ensures shorter { length (run_of result.0) ≤ length (run_of result.1) }
 {
     if first.nodes.len() <= second.nodes.len() {
         (first, second)
