@@ -26,29 +26,29 @@ pub(crate) fn judge(alloc: Global, bytes: &[u8]) -> Result<Answer, Memory>
 {
     let file = match parse(alloc, bytes) {
         Ok(file) => file,
-        Err(ParseError::NotBuilt) => return not_built(alloc),
+        Err(ParseError::NotBuilt) => return answer_not_built(alloc),
         Err(ParseError::Memory) => return Err(Memory),
     };
     if !is_well_formed(alloc, &file)? {
-        return not_built(alloc);
+        return answer_not_built(alloc);
     }
     match check(&file) {
-        Verdict::Accepted => accepted(alloc, count_handlers(file.decls.as_slice())),
+        Verdict::Accepted => answer_accepted(alloc, count_handlers(file.decls.as_slice())),
         Verdict::Refused {
             line,
             condition,
             field,
-        } => refused(alloc, line, condition, field),
+        } => answer_refused(alloc, line, condition, field),
     }
 }
 
-fn not_built(alloc: Global) -> Result<Answer, Memory>
+fn answer_not_built(alloc: Global) -> Result<Answer, Memory>
     ensures { IfOk result (λ a. (a.status ≡ Status.Input) × (string_bytes a.text ≡ texts.not_built)) }
 {
     answer_with(Status::Input, String::from_str(alloc, "not built\n"))
 }
 
-fn accepted(alloc: Global, handlers: usize) -> Result<Answer, Memory>
+fn answer_accepted(alloc: Global, handlers: usize) -> Result<Answer, Memory>
     ensures { IfOk result (λ a.
         (a.status ≡ Status.Done) × (string_bytes a.text ≡ texts.accepted_text handlers)) }
 {
@@ -58,7 +58,7 @@ fn accepted(alloc: Global, handlers: usize) -> Result<Answer, Memory>
     )
 }
 
-fn refused(alloc: Global, line: u32, condition: u8, field: u8) -> Result<Answer, Memory>
+fn answer_refused(alloc: Global, line: u32, condition: u8, field: u8) -> Result<Answer, Memory>
     ensures { IfOk result (λ a.
         (a.status ≡ Status.NotAccepted) × (string_bytes a.text ≡ texts.refused_text line condition field)) }
 {

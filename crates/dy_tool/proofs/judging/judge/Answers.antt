@@ -7,12 +7,12 @@ use Rattle.dy_tool.proofs.judging.judge.Goals as goal
 
 pub returns-in-Err-NotBuilt : goal.returns-in-Err-NotBuilt
 returns-in-Err-NotBuilt c =
-    IfOk-weaker c.not_built.result _ _ (λ a is. input_is_due c.args.bytes.now a.status (string_bytes a.text) c.requires (λ file protocol. c.in-Err-NotBuilt.ensures.none (cc) file protocol.reads) is) c.not_built.ensures
+    IfOk-weaker c.answer_not_built.result _ _ (λ a is. input_is_due c.args.bytes.now a.status (string_bytes a.text) c.requires (λ file protocol. c.in-Err-NotBuilt.ensures.none (cc) file protocol.reads) is) c.answer_not_built.ensures
 
 pub returns-then-not-branch : goal.returns-then-not-branch
 returns-then-not-branch c =
-    IfOk-weaker c.not_built-then-not-branch.result _ _ (λ a is. input_is_due c.args.bytes.now a.status (string_bytes a.text) c.requires (wrong_is_none c.args.bytes.now (file_of c.in-Ok.file) c.in-Ok.ensures.only (sym c.in_ok-is_well_formed.ensures ∙ c.if-not-branch.true)) is) c.not_built-then-not-branch.ensures
+    IfOk-weaker c.answer_not_built-then-not-branch.result _ _ (λ a is. input_is_due c.args.bytes.now a.status (string_bytes a.text) c.requires (wrong_is_none c.args.bytes.now (file_of c.in-Ok.file) c.in-Ok.ensures.only (sym c.in_ok-is_well_formed.ensures ∙ c.if-not-branch.true)) is) c.answer_not_built-then-not-branch.ensures
 
 pub returns : goal.returns
 returns c =
-    IfOk-weaker c.refused.result _ _ (λ a is. refused_is_due c.args.bytes.now (file_of c.in-Ok.file) c.in-Refused.line c.in-Refused.condition c.in-Refused.field a.status (string_bytes a.text) (record { reads = c.in-Ok.ensures.file; well_formed = sym c.in_ok-is_well_formed.ensures ∙ c.if-not-branch.false }) (c.in-Refused.ensures.refused c.in-Refused.line c.in-Refused.condition c.in-Refused.field refl) is) c.refused.ensures
+    IfOk-weaker c.answer_refused.result _ _ (λ a is. refused_is_due c.args.bytes.now (file_of c.in-Ok.file) c.in-Refused.line c.in-Refused.condition c.in-Refused.field a.status (string_bytes a.text) (record { reads = c.in-Ok.ensures.file; well_formed = sym c.in_ok-is_well_formed.ensures ∙ c.if-not-branch.false }) (c.in-Refused.ensures.refused c.in-Refused.line c.in-Refused.condition c.in-Refused.field refl) is) c.answer_refused.ensures
