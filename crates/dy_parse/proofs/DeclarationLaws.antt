@@ -7,8 +7,8 @@ use Rattle.std.proofs.lemmas.Bool.{cond_both, and_parts, and_from, leb-true, le-
 use Rattle.std.proofs.lemmas.Slice.Eq.{bytes_eq-Decides}
 use Rattle.dy_lex.specs.declared.tokens.TokenKind.TheVariants.{Word, Symbol}
 use Rattle.dy_lex.specs.Tokens.{Piece}
-use Rattle.dy_syntax.specs.Files.{PartnerText, EventText, HandlerText, Declaration, DeclaresEvent, DeclaresHandler}
-use Rattle.dy_syntax.specs.Limits.{has_few, partner_fits, event_fits, stmt_fits, handler_fits, declaration_fits}
+use Rattle.dy_syntax.specs.Small.Files.{PartnerText, EventText, HandlerText, Declaration, DeclaresEvent, DeclaresHandler}
+use Rattle.dy_syntax.specs.Small.Limits.{has_few, partner_fits, event_fits, stmt_fits, handler_fits, declaration_fits}
 use Rattle.dy_parse.specs.declared.lists.Between.TheVariants as betweens
 use Rattle.dy_parse.specs.declared.lists.Closing.TheVariants as closings
 use Rattle.dy_parse.specs.Words.{is_reserved}

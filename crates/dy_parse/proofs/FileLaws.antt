@@ -5,8 +5,8 @@ use Rattle.std.specs.List.{list_all}
 use Rattle.std.proofs.lemmas.Bool.{and_parts, and_from, both_ways, leb-true}
 use Rattle.dy_lex.specs.declared.tokens.TokenKind.TheVariants.{Word, Number}
 use Rattle.dy_lex.specs.Tokens.{Piece, Spells}
-use Rattle.dy_syntax.specs.Files.{Declaration, DeclaresEvent, DeclaresHandler, FileText, events_in, handlers_in}
-use Rattle.dy_syntax.specs.Limits.{declaration_fits, file_fits}
+use Rattle.dy_syntax.specs.Small.Files.{Declaration, DeclaresEvent, DeclaresHandler, FileText, events_in, handlers_in}
+use Rattle.dy_syntax.specs.Small.Limits.{declaration_fits, file_fits}
 use Rattle.dy_parse.specs.declared.lists.Between.TheVariants as betweens
 use Rattle.dy_parse.specs.declared.lists.Closing.TheVariants as closings
 use Rattle.dy_parse.specs.Forms.{More, Ends}

@@ -6,8 +6,8 @@ use Rattle.std.proofs.lemmas.Bool.{cond_both}
 use Rattle.std.proofs.lemmas.Slice.Eq.{bytes_eq-Decides}
 use Rattle.dy_lex.specs.declared.tokens.TokenKind.TheVariants.{Word, Symbol}
 use Rattle.dy_lex.specs.Tokens.{Piece}
-use Rattle.dy_syntax.specs.Files.{Atom, Value, NameValue, TextValue, Action, Triggers, Sends, Stmt}
-use Rattle.dy_syntax.specs.Limits.{has_few, action_fits, stmt_fits}
+use Rattle.dy_syntax.specs.Small.Files.{Atom, Value, NameValue, TextValue, Action, Triggers, Sends, Stmt}
+use Rattle.dy_syntax.specs.Small.Limits.{has_few, action_fits, stmt_fits}
 use Rattle.dy_parse.specs.Forms.{On, Items}
 use Rattle.dy_parse.specs.Grammar.{IsName, IsAtom, IsValue, IsAction, IsStmt}
 use Rattle.dy_parse.specs.Reading.{◌>>=◌, first_at, expect, name_at, text_at, use_at, items_at, atom_at, value_at, action_at, stmt_at}

@@ -9,8 +9,8 @@ use Rattle.dy_term.specs.Characters.{is_word, is_text, quoted}
 use Rattle.dy_lex.specs.declared.tokens.TokenKind.{TokenKind}
 use Rattle.dy_lex.specs.declared.tokens.TokenKind.TheVariants.{Word, Number, Text, Symbol}
 use Rattle.dy_lex.specs.Tokens.{Piece}
-use Rattle.dy_syntax.specs.Files as files
-use Rattle.dy_syntax.specs.Files.{Name}
+use Rattle.dy_syntax.specs.Small.Files as files
+use Rattle.dy_syntax.specs.Small.Files.{Name}
 use Rattle.dy_parse.specs.Words.{is_reserved}
 use Rattle.dy_parse.specs.Forms.{On, Next, is_name, Named, Quoted}
 use Rattle.dy_parse.specs.Grammar.{IsName}

@@ -1,8 +1,8 @@
 -- When bytes are a protocol file.
 use Rattle.std.specs.Prelude.{◌≡◌, ℕ, ◌≤◌, true, List, length}
 use Rattle.dy_lex.specs.Tokens.{Piece, Spells}
-use Rattle.dy_syntax.specs.Files.{FileText}
-use Rattle.dy_syntax.specs.Limits.{file_fits}
+use Rattle.dy_syntax.specs.Small.Files.{FileText}
+use Rattle.dy_syntax.specs.Small.Limits.{file_fits}
 use Rattle.dy_parse.specs.Grammar.{IsFile}
 
 -- The bytes, of which there are at most 1,048,576, are cut into tokens that spell the file, and the file is

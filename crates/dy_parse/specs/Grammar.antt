@@ -2,8 +2,8 @@
 use Rattle.std.specs.Prelude.{ℕ, Bool, true, false, List, [], ◌∷◌, codes}
 use Rattle.dy_lex.specs.declared.tokens.TokenKind.TheVariants.{Word, Number, Symbol}
 use Rattle.dy_lex.specs.Tokens.{Piece}
-use Rattle.dy_syntax.specs.Files as files
-use Rattle.dy_syntax.specs.Files.{Name, Atom, Value, NameValue, TextValue, Action, Triggers, Sends, Stmt, Parameter, PartnerText, EventText, HandlerText, Declaration, DeclaresEvent, DeclaresHandler, FileText}
+use Rattle.dy_syntax.specs.Small.Files as files
+use Rattle.dy_syntax.specs.Small.Files.{Name, Atom, Value, NameValue, TextValue, Action, Triggers, Sends, Stmt, Parameter, PartnerText, EventText, HandlerText, Declaration, DeclaresEvent, DeclaresHandler, FileText}
 use Rattle.dy_parse.specs.Forms.{On, Next, ◌▸◌, Named, Quoted, More, Items, Nothing, Ends}
 
 -- `self`, or a name

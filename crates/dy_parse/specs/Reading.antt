@@ -5,8 +5,8 @@ use Rattle.dy_term.specs.Characters.{is_text}
 use Rattle.dy_lex.specs.declared.tokens.TokenKind.{TokenKind}
 use Rattle.dy_lex.specs.declared.tokens.TokenKind.TheVariants.{Word, Number, Text, Symbol}
 use Rattle.dy_lex.specs.Tokens.{Piece}
-use Rattle.dy_syntax.specs.Files as files
-use Rattle.dy_syntax.specs.Files.{Name, Atom, Value, NameValue, TextValue, Action, Triggers, Sends, Stmt, Parameter, PartnerText, EventText, HandlerText, Declaration, DeclaresEvent, DeclaresHandler, FileText}
+use Rattle.dy_syntax.specs.Small.Files as files
+use Rattle.dy_syntax.specs.Small.Files.{Name, Atom, Value, NameValue, TextValue, Action, Triggers, Sends, Stmt, Parameter, PartnerText, EventText, HandlerText, Declaration, DeclaresEvent, DeclaresHandler, FileText}
 use Rattle.dy_parse.specs.declared.errors.ParseError.{ParseError}
 use Rattle.dy_parse.specs.declared.errors.ParseError.TheVariants as errors
 use Rattle.dy_parse.specs.declared.lists.Between.{Between}

@@ -1,12 +1,12 @@
 ghost use Rattle.std.specs.Prelude.{◌≡◌, length};
 ghost use Rattle.std.specs.Option.{option_map};
 ghost use Rattle.dy_lex.specs.Tokens.{piece_of, pieces_of};
-ghost use Rattle.dy_syntax.specs.Meaning.{name_of};
+ghost use Rattle.dy_syntax.specs.Small.Meaning.{name_of};
 ghost use Rattle.dy_parse.specs.Reading as reading;
 
 use crate::words::is_reserved;
 use dy_lex::{Token, TokenKind};
-use dy_syntax::Nm;
+use dy_syntax::small::Nm;
 use dy_term::{Text, Word};
 use std::marker::Model;
 

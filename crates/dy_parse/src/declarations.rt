@@ -1,7 +1,7 @@
 ghost use Rattle.std.specs.Prelude.{◌≡◌, ℕ, List, map};
 ghost use Rattle.dy_lex.specs.Tokens.{Piece};
-ghost use Rattle.dy_syntax.specs.Files as files;
-ghost use Rattle.dy_syntax.specs.Meaning.{param_of, partner_of, event_of, handler_of, decl_of};
+ghost use Rattle.dy_syntax.specs.Small.Files as files;
+ghost use Rattle.dy_syntax.specs.Small.Meaning.{param_of, partner_of, event_of, handler_of, decl_of};
 ghost use Rattle.dy_parse.specs.Reading as reading;
 ghost use Rattle.dy_parse.specs.Reading.{Gives};
 
@@ -10,7 +10,7 @@ use crate::errors::ParseError;
 use crate::lists::{Between, Closing, Part, items, more, with_first};
 use crate::statements::atom;
 use dy_lex::TokenKind;
-use dy_syntax::{Decl, EventDecl, Handler, Param, Partner};
+use dy_syntax::small::{Decl, EventDecl, Handler, Param, Partner};
 use dy_term::Word;
 use sqlite_items::Items;
 use std::alloc::Global;

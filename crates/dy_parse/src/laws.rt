@@ -1,5 +1,5 @@
 ghost use Rattle.std.specs.Prelude.{◌≡◌, ℕ, List};
-ghost use Rattle.dy_syntax.specs.Files.{FileText};
+ghost use Rattle.dy_syntax.specs.Small.Files.{FileText};
 ghost use Rattle.dy_parse.specs.Files.{Reads};
 
 use dy_lex::one_reading;

@@ -1,7 +1,7 @@
 ghost use Rattle.std.specs.Prelude.{◌≡◌, ◌≤◌, ◌&&◌, nat_le, map, length, IfOk, IsErrOf};
 ghost use Rattle.dy_lex.specs.Tokens.{pieces_of};
-ghost use Rattle.dy_syntax.specs.Files.{FileText, events_in, handlers_in};
-ghost use Rattle.dy_syntax.specs.Meaning.{file_of, decl_of};
+ghost use Rattle.dy_syntax.specs.Small.Files.{FileText, events_in, handlers_in};
+ghost use Rattle.dy_syntax.specs.Small.Meaning.{file_of, decl_of};
 ghost use Rattle.dy_parse.specs.Files.{Reads};
 ghost use Rattle.dy_parse.specs.Reading as reading;
 ghost use Rattle.dy_parse.specs.Reading.{Gives};
@@ -10,7 +10,7 @@ use crate::cursor::Cursor;
 use crate::errors::ParseError;
 use crate::lists::{Between, Closing, more};
 use dy_lex::{LexError, Token, TokenKind, lex, one_reading};
-use dy_syntax::{Decl, File};
+use dy_syntax::small::{Decl, File};
 use std::alloc::Global;
 
 /// The most events, and the most handlers, that a file declares.

@@ -1,7 +1,7 @@
 ghost use Rattle.std.specs.Prelude.{◌≡◌, List};
 ghost use Rattle.dy_lex.specs.Tokens.{Piece};
-ghost use Rattle.dy_syntax.specs.Files as files;
-ghost use Rattle.dy_syntax.specs.Meaning.{name_of, atom_of, value_of, action_of, stmt_of};
+ghost use Rattle.dy_syntax.specs.Small.Files as files;
+ghost use Rattle.dy_syntax.specs.Small.Meaning.{name_of, atom_of, value_of, action_of, stmt_of};
 ghost use Rattle.dy_parse.specs.Reading as reading;
 ghost use Rattle.dy_parse.specs.Reading.{Gives};
 
@@ -9,7 +9,7 @@ use crate::cursor::Cursor;
 use crate::errors::ParseError;
 use crate::lists::{Part, items};
 use dy_lex::TokenKind;
-use dy_syntax::{Act, AtomText, Expr, Nm, Statement};
+use dy_syntax::small::{Act, AtomText, Expr, Nm, Statement};
 use std::alloc::Global;
 
 impl Part for Nm {

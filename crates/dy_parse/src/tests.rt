@@ -1,5 +1,5 @@
 use super::*;
-use dy_syntax::{Act, Decl, Expr, File, Nm};
+use dy_syntax::small::{Act, Decl, Expr, File, Nm};
 use std::alloc::{AllocError, Global};
 use std::test::*;
 

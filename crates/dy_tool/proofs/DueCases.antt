@@ -1,7 +1,7 @@
 -- What is due, case by case.
 use Rattle.std.proofs.Common.{◌≡◌, ℕ, ◌≤◌, List, length, true, false, ap, ◌∙◌}
-use Rattle.dy_syntax.specs.Files.{FileText}
-use Rattle.dy_syntax.specs.Rules.{is_well_formed}
+use Rattle.dy_syntax.specs.Small.Files.{FileText}
+use Rattle.dy_syntax.specs.Small.Rules.{is_well_formed}
 use Rattle.dy_parse.specs.Files.{Reads}
 use Rattle.dy_check.specs.Typing.{IsRefused}
 use Rattle.dy_tool.specs.declared.statuses.Status.{Status}

@@ -1,7 +1,7 @@
 -- Which status and which text are due, for the words and for the bytes that the source has.
 use Rattle.std.specs.Prelude.{◌≡◌, ◌≢◌, ℕ, ◌<◌, ◌≤◌, true, List, [], ◌∷◌, length, codes}
-use Rattle.dy_syntax.specs.Files.{FileText, handlers_in}
-use Rattle.dy_syntax.specs.Rules.{is_well_formed}
+use Rattle.dy_syntax.specs.Small.Files.{FileText, handlers_in}
+use Rattle.dy_syntax.specs.Small.Rules.{is_well_formed}
 use Rattle.dy_parse.specs.Files.{Reads}
 use Rattle.dy_check.specs.Small.{Entry, Interleaves, KeepsOrder}
 use Rattle.dy_check.specs.Typing.{IsTyped, IsRefused}

@@ -1,9 +1,9 @@
 use Rattle.std.proofs.Common.{◌≡◌, ◌+◌, List, ◌∷◌, length, map, drop, ap, arith}
 use Rattle.std.proofs.lemmas.List.{drop_more}
-use Rattle.dy_syntax.specs.declared.declarations.Decl.{Decl}
-use Rattle.dy_syntax.specs.declared.declarations.Decl.TheVariants.{Event, Handler}
-use Rattle.dy_syntax.specs.Files.{events_in, handlers_in}
-use Rattle.dy_syntax.specs.Meaning.{decl_of}
+use Rattle.dy_syntax.specs.declared.small.declarations.Decl.{Decl}
+use Rattle.dy_syntax.specs.declared.small.declarations.Decl.TheVariants.{Event, Handler}
+use Rattle.dy_syntax.specs.Small.Files.{events_in, handlers_in}
+use Rattle.dy_syntax.specs.Small.Meaning.{decl_of}
 use Rattle.dy_parse.proofs.parsing.declares_few.Goals as goal
 use Rattle.dy_parse.proofs.parsing.declares_few.Goals.{in-Event, in-Handler}
 

@@ -1,6 +1,6 @@
 use Rattle.std.proofs.Common.{◌≡◌, ◌+◌, length, map, drop}
-use Rattle.dy_syntax.specs.Files.{events_in, handlers_in}
-use Rattle.dy_syntax.specs.Meaning.{decl_of}
+use Rattle.dy_syntax.specs.Small.Files.{events_in, handlers_in}
+use Rattle.dy_syntax.specs.Small.Meaning.{decl_of}
 use Rattle.dy_parse.proofs.parsing.declares_few.Given as goal
 
 abbrev pub invariant-loop-decl : goal.invariant-loop-decl

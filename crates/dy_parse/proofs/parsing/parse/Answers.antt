@@ -1,7 +1,7 @@
 use Rattle.std.proofs.Common.{◌≡◌, Some, None, true, false, rules}
 use Rattle.std.proofs.lemmas.Result.{err_from_is_err_and}
 use Rattle.dy_lex.specs.Tokens.{pieces_of}
-use Rattle.dy_syntax.specs.Meaning.{file_of}
+use Rattle.dy_syntax.specs.Small.Meaning.{file_of}
 use Rattle.dy_parse.specs.declared.errors.ParseError.TheVariants.{NotBuilt}
 use Rattle.dy_parse.specs.Reading.{file_at}
 use Rattle.dy_parse.proofs.FileLaws.{read_again, no_file, reads_from, too_many, counts_fit}
