@@ -6,7 +6,7 @@ ghost use Rattle.dy_tool.specs.Texts as texts;
 
 use crate::statuses::Status;
 use dy_check::{Verdict, check};
-use dy_parse::{ParseError, parse};
+use dy_parse::small::{ParseError, parse};
 use dy_syntax::small::{Decl, File, is_well_formed};
 use dy_term::Memory;
 use std::alloc::{AllocError, Global};
