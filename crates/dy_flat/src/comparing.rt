@@ -1,10 +1,12 @@
 ghost use Rattle.std.specs.Prelude.{◌≡◌, ◌≢◌, true, false, IsSome};
+ghost use Rattle.dy_term.specs.Sameness.{is_same};
 ghost use Rattle.dy_flat.specs.Meaning.{read};
 ghost use Rattle.dy_flat.specs.Views.{tree_of};
 
 use crate::contents::Contents;
 use crate::flat_nodes::Node;
 use crate::views::View;
+use dy_term::sameness_is_equality;
 
 /// Whether two nodes, each of its contents, are the same.
 fn same_node(a: &Contents, m: Node, b: &Contents, n: Node) -> bool
@@ -28,8 +30,8 @@ fn same_node(a: &Contents, m: Node, b: &Contents, n: Node) -> bool
     }
 }
 
-/// Whether the two are the same term.
-pub fn same(a: View, b: View) -> bool
+/// Whether the nodes of the two are the same, each beside the other.
+fn have_same_nodes(a: View, b: View) -> bool
     ensures same { result ≡ true → tree_of a.entry ≡ tree_of b.entry }
     ensures other { result ≡ false → tree_of a.entry ≢ tree_of b.entry }
 {
@@ -42,4 +44,12 @@ pub fn same(a: View, b: View) -> bool
         }
     }
     true
+}
+
+/// Whether the two are the same term. `sameness_is_equality` says that they then are equal.
+pub fn same(a: View, b: View) -> bool
+    ensures { result ≡ is_same (tree_of a.entry) (tree_of b.entry) }
+{
+    sameness_is_equality();
+    have_same_nodes(a, b)
 }

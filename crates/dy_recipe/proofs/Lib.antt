@@ -1,3 +1,2 @@
-pub mod Samenesses
 pub mod LastValues
 pub mod ValuesByPlaces

@@ -3,5 +3,4 @@ pub mod Meaning
 pub mod Moves
 pub mod Openings
 pub mod Places
-pub mod Sameness
 pub mod Values

@@ -1,7 +1,7 @@
 -- What the attacker gets out of a term, with the key that it takes.
 use Rattle.std.specs.Prelude.{Option, Some, None, if◌then◌else◌}
 use Rattle.dy_term.specs.Terms.{Term, Pk, Penc, Aead, Sign}
-use Rattle.dy_recipe.specs.Sameness.{is_same}
+use Rattle.dy_term.specs.Sameness.{is_same}
 
 -- Public-key encryption to the public key of a key is opened with that very key.
 abbrev pub public_opened : Term → Term → Option Term

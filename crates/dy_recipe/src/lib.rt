@@ -7,13 +7,11 @@ mod laws;
 mod lent;
 mod moves;
 mod opening;
-mod sameness;
 
 pub use applying::apply;
 pub use given::Given;
 pub use laws::value_by_places;
 pub use moves::{Move, Recipe};
-pub use sameness::sameness_is_equality;
 
 #[cfg(test)]
 mod tests;

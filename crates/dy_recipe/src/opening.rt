@@ -3,8 +3,7 @@ ghost use Rattle.dy_flat.specs.Views.{tree_of};
 ghost use Rattle.dy_flat.specs.PartMeaning.{part_of};
 ghost use Rattle.dy_recipe.specs.Openings as openings;
 
-use crate::sameness::is_same;
-use dy_flat::{Shape, View, body_part, inner, key_part, shape};
+use dy_flat::{Shape, View, body_part, inner, key_part, same, shape};
 
 /// Lends the message of public-key encryption. `None` exactly where the term is none, or is not encrypted to the
 /// public key of this very key.
@@ -18,7 +17,7 @@ pub(crate) fn public_opened<'a>(sealed: View<'a>, key: View) -> Option<View<'a>>
     let Shape::Pk = shape(to) else {
         return None;
     };
-    if is_same(inner(to)?, key) {
+    if same(inner(to)?, key) {
         body_part(sealed)
     } else {
         None
@@ -33,7 +32,7 @@ pub(crate) fn opened<'a>(sealed: View<'a>, key: View) -> Option<View<'a>>
     let Shape::Aead = shape(sealed) else {
         return None;
     };
-    if is_same(key_part(sealed)?, key) {
+    if same(key_part(sealed)?, key) {
         body_part(sealed)
     } else {
         None

@@ -8,22 +8,22 @@ use Rattle.dy_term.specs.declared.begun.Single.{Single}
 use Rattle.dy_term.specs.declared.begun.Single.TheVariants as single
 use Rattle.dy_term.specs.declared.begun.Double.{Double}
 use Rattle.dy_term.specs.declared.begun.Double.TheVariants as double
-use Rattle.dy_term.specs.TermSteps.{single_of, double_of}
+use Rattle.dy_term.specs.MirrorSteps.{single_of, double_of}
 
 -- the text before the parts of a constructor
-abbrev pub single_front : Single → List ℕ
-single_front single.Pk = codes "pk("
-single_front single.Vk = codes "vk("
-single_front single.Hash = codes "hash("
+abbrev pub single_prefix : Single → List ℕ
+single_prefix single.Pk = codes "pk("
+single_prefix single.Vk = codes "vk("
+single_prefix single.Hash = codes "hash("
 
-abbrev pub double_front : Double → List ℕ
-double_front double.Pair = codes "pair("
-double_front double.Penc = codes "penc("
-double_front double.Sign = codes "sign("
-double_front double.Mac = codes "mac("
+abbrev pub double_prefix : Double → List ℕ
+double_prefix double.Pair = codes "pair("
+double_prefix double.Penc = codes "penc("
+double_prefix double.Sign = codes "sign("
+double_prefix double.Mac = codes "mac("
 
 -- the text and the size of a constructor by its parts
-pub one_text : (maker : Single) (part : Term) → term_text (single_of maker part) ≡ single_front maker ++ (term_text part ++ codes ")")
+pub one_text : (maker : Single) (part : Term) → term_text (single_of maker part) ≡ single_prefix maker ++ (term_text part ++ codes ")")
 one_text single.Pk part = refl
 one_text single.Vk part = refl
 one_text single.Hash part = refl
@@ -33,7 +33,7 @@ one_size single.Pk part = refl
 one_size single.Vk part = refl
 one_size single.Hash part = refl
 
-pub two_text : (maker : Double) (first second : Term) → term_text (double_of maker first second) ≡ double_front maker ++ (term_text first ++ (codes ", " ++ (term_text second ++ codes ")")))
+pub two_text : (maker : Double) (first second : Term) → term_text (double_of maker first second) ≡ double_prefix maker ++ (term_text first ++ (codes ", " ++ (term_text second ++ codes ")")))
 two_text double.Pair first second = rw (append_assoc, append_assoc) refl
 two_text double.Penc first second = rw (append_assoc, append_assoc) refl
 two_text double.Sign first second = rw (append_assoc, append_assoc) refl

@@ -1,7 +1,9 @@
 pub mod Constructors
-pub mod Fronts
+pub mod Prefixes
 pub mod ReadTerms
 pub mod Runs
+pub mod Samenesses
+pub mod TermEnds
 pub mod TextBegins
 pub mod TextReads
 pub mod Written

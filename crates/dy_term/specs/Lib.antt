@@ -1,7 +1,9 @@
 pub mod Characters
 pub mod Meaning
-pub mod ReaderMeaning
-pub mod Terms
+pub mod MirrorReader
+pub mod MirrorSteps
+pub mod Sameness
 pub mod TermReading
-pub mod TermSteps
 pub mod TermText
+pub mod Terms
+pub mod Tuples

@@ -1,6 +1,6 @@
 ghost use Rattle.std.specs.Prelude.{◌≡◌, IfOk, map, Option, option_map};
-ghost use Rattle.dy_term.specs.TermSteps as steps;
-ghost use Rattle.dy_term.specs.ReaderMeaning.{part_of, begun_of};
+ghost use Rattle.dy_term.specs.MirrorSteps as steps;
+ghost use Rattle.dy_term.specs.MirrorReader.{part_of, begun_of};
 
 use crate::{Term, Text};
 use std::alloc::{AllocError, Global};
@@ -22,7 +22,7 @@ pub(crate) enum Double {
     Mac,
 }
 
-/// A part that was read. Past 1,024 nodes no term is kept.
+/// A part that was read. Past 1,024 nodes no term is part_within.
 pub(crate) type Part = Option<Term>;
 
 /// A constructor that has been begun, with the parts that were read.
@@ -66,8 +66,8 @@ pub(crate) fn begun_by(name: &[u8]) -> Option<Begun>
 }
 
 /// A constructor of one part, whole.
-pub(crate) fn made_one(alloc: Global, maker: Single, part: Part) -> Result<Part, AllocError>
-    ensures { IfOk result (λ made. part_of made ≡ steps.made_one maker (part_of part)) }
+pub(crate) fn whole_single(alloc: Global, maker: Single, part: Part) -> Result<Part, AllocError>
+    ensures { IfOk result (λ made. part_of made ≡ steps.whole_single maker (part_of part)) }
 {
     let Some(part) = part else {
         return Ok(None);
@@ -81,13 +81,13 @@ pub(crate) fn made_one(alloc: Global, maker: Single, part: Part) -> Result<Part,
 }
 
 /// A constructor of two parts, whole.
-pub(crate) fn made_two(
+pub(crate) fn whole_double(
     alloc: Global,
     maker: Double,
     first: Part,
     second: Part,
 ) -> Result<Part, AllocError>
-    ensures { IfOk result (λ made. part_of made ≡ steps.made_two maker (part_of first) (part_of second)) }
+    ensures { IfOk result (λ made. part_of made ≡ steps.whole_double maker (part_of first) (part_of second)) }
 {
     let (Some(first), Some(second)) = (first, second) else {
         return Ok(None);
@@ -103,13 +103,14 @@ pub(crate) fn made_two(
 }
 
 /// An authenticated encryption, whole.
-pub(crate) fn made_aead(
+pub(crate) fn whole_aead(
     alloc: Global,
     key: Part,
     message: Part,
     associated: Part,
 ) -> Result<Part, AllocError>
-    ensures { IfOk result (λ made. part_of made ≡ steps.made_aead (part_of key) (part_of message) (part_of associated)) }
+    ensures { IfOk result (λ made. part_of made
+        ≡ steps.whole_aead (part_of key) (part_of message) (part_of associated)) }
 {
     let (Some(key), Some(message), Some(associated)) = (key, message, associated) else {
         return Ok(None);
@@ -121,13 +122,13 @@ pub(crate) fn made_aead(
 }
 
 /// A derived key, whole.
-pub(crate) fn made_kdf(
+pub(crate) fn whole_kdf(
     alloc: Global,
     key: Part,
     context: Text,
     input: Part,
 ) -> Result<Part, AllocError>
-    ensures { IfOk result (λ made. part_of made ≡ steps.made_kdf (part_of key) context (part_of input)) }
+    ensures { IfOk result (λ made. part_of made ≡ steps.whole_kdf (part_of key) context (part_of input)) }
 {
     let Some(key) = key else {
         return Ok(None);

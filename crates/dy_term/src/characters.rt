@@ -2,18 +2,20 @@ ghost use Rattle.std.specs.Prelude.{◌≡◌};
 ghost use Rattle.std.specs.List.{list_all};
 ghost use Rattle.dy_term.specs.Characters as chars;
 
+use crate::letters::{BACKSLASH, QUOTE, SPACE, TILDE, UNDERSCORE};
+
 /// Whether the byte is a letter, a digit or `_`.
 pub fn is_word_byte(byte: u8) -> bool
     ensures { result ≡ chars.is_word_byte byte }
 {
-    byte.is_ascii_alphanumeric() || byte == b'_'
+    byte.is_ascii_alphanumeric() || byte == UNDERSCORE
 }
 
 /// Whether the byte is printable ASCII other than `"` and `\`.
 pub fn is_text_byte(byte: u8) -> bool
     ensures { result ≡ chars.is_text_byte byte }
 {
-    (32 <= byte && byte <= 126) && byte != b'"' && byte != b'\\'
+    (SPACE <= byte && byte <= TILDE) && byte != QUOTE && byte != BACKSLASH
 }
 
 fn are_word_bytes(bytes: &[u8]) -> bool
@@ -32,7 +34,7 @@ pub fn is_long_word(bytes: &[u8]) -> bool
     }
 }
 
-/// Whether the bytes are all such as a text is made of.
+/// Whether all bytes may stand in a text.
 pub fn is_long_text(bytes: &[u8]) -> bool
     ensures { result ≡ chars.is_long_text bytes.now }
 {

@@ -4,6 +4,8 @@
 mod begun;
 pub mod characters;
 mod laws;
+pub mod letters;
+pub mod limits;
 mod memory;
 mod reader;
 mod short;
@@ -13,9 +15,9 @@ mod terms;
 mod texts;
 mod words;
 
-pub use laws::one_term;
+pub use laws::{one_term, sameness_is_equality, term_ends};
 pub use memory::Memory;
-pub use term_reading::{TermError, read_term};
+pub use term_reading::{LeadingError, LeadingTerm, TermError, read_leading_term, read_term};
 pub use term_text::write_term;
 pub use terms::{Term, same, size};
 pub use texts::Text;

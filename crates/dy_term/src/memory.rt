@@ -1,3 +1,19 @@
-/// Memory was wanting. A call that answers it leaves all as it was.
+ghost use Rattle.std.specs.Prelude.{◌≡◌};
+
+use std::alloc::{AllocError, AllocFailed};
+
+/// Out of memory. A call that answers it leaves all as it was.
 #[derive(Clone, Copy, Debug, PartialEq, Eq)]
 pub struct Memory;
+
+impl From<AllocError> for Memory {
+    fn from(_: AllocError) -> Memory {
+        Memory
+    }
+}
+
+impl<T: Drop> From<AllocFailed<T>> for Memory {
+    fn from(_: AllocFailed<T>) -> Memory {
+        Memory
+    }
+}

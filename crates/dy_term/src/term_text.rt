@@ -7,15 +7,13 @@ ghost use Rattle.dy_term.specs.TermReading.{is_made, IsTextOf};
 use crate::{Memory, Term, Text};
 use std::alloc::{AllocError, Global};
 
-/// The text of a term. The one refusal is for want of memory.
+/// The text of a term. The one refusal is out of memory.
 pub fn write_term(alloc: Global, term: &Term) -> Result<Vec<u8>, Memory>
     ensures { IfOk result (λ text. IsTextOf (tree_of term.now) text.items) }
 {
     let mut text = Vec::new(alloc);
-    match put_term(alloc, &mut text, term) {
-        Ok(()) => Ok(text),
-        Err(AllocError) => Err(Memory),
-    }
+    put_term(alloc, &mut text, term)?;
+    Ok(text)
 }
 
 /// Adds the text of a term.
@@ -75,11 +73,12 @@ fn put_text(text: &mut Vec<u8>, literal: &Text) -> Result<(), AllocError>
 
 /// Adds a constructor with one part.
 #[cycle(put)]
-fn put_one(alloc: Global, text: &mut Vec<u8>, front: &[u8], part: &Term) -> Result<(), AllocError>
-    ensures text { IfOk result (λ _. text.new.items ≡ text.old.items ++ front.now ++ term_text (tree_of part.now) ++ codes ")") }
+fn put_one(alloc: Global, text: &mut Vec<u8>, prefix: &[u8], part: &Term) -> Result<(), AllocError>
+    ensures text { IfOk result (λ _. text.new.items
+        ≡ text.old.items ++ prefix.now ++ term_text (tree_of part.now) ++ codes ")") }
     ensures made { IfOk result (λ _. is_made (tree_of part.now) ≡ true) }
 {
-    text.extend_from_slice(front)?;
+    text.extend_from_slice(prefix)?;
     put_term(alloc, text, part)?;
     text.extend_from_slice(b")")
 }
@@ -89,14 +88,16 @@ fn put_one(alloc: Global, text: &mut Vec<u8>, front: &[u8], part: &Term) -> Resu
 fn put_two(
     alloc: Global,
     text: &mut Vec<u8>,
-    front: &[u8],
+    prefix: &[u8],
     first: &Term,
     second: &Term,
 ) -> Result<(), AllocError>
-    ensures text { IfOk result (λ _. text.new.items ≡ text.old.items ++ front.now ++ term_text (tree_of first.now) ++ codes ", " ++ term_text (tree_of second.now) ++ codes ")") }
+    ensures text { IfOk result (λ _. text.new.items
+        ≡ text.old.items ++ prefix.now ++ term_text (tree_of first.now) ++ codes ", " ++ term_text (tree_of second.now)
+        ++ codes ")") }
     ensures made { IfOk result (λ _. (is_made (tree_of first.now) ≡ true) × (is_made (tree_of second.now) ≡ true)) }
 {
-    text.extend_from_slice(front)?;
+    text.extend_from_slice(prefix)?;
     put_term(alloc, text, first)?;
     text.extend_from_slice(b", ")?;
     put_term(alloc, text, second)?;

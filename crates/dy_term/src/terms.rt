@@ -1,6 +1,7 @@
-ghost use Rattle.std.specs.Prelude.{◌≡◌, ◌≢◌, ◌<◌, true, false};
+ghost use Rattle.std.specs.Prelude.{◌≡◌, ◌<◌, ◌^◌};
 ghost use Rattle.dy_term.specs.Meaning.{tree_of};
 ghost use Rattle.dy_term.specs.Terms as trees;
+ghost use Rattle.dy_term.specs.Sameness.{is_same};
 
 use crate::{Text, Word};
 
@@ -29,7 +30,7 @@ pub enum Term {
 
 /// The number of constructors of a term, which is below 2^32.
 pub fn size(term: &Term) -> u32
-    requires { trees.size (tree_of term.now) < 4294967296 }
+    requires { trees.size (tree_of term.now) < 2 ^ 32 }
     ensures { result ≡ trees.size (tree_of term.now) }
 {
     match term {
@@ -44,10 +45,9 @@ pub fn size(term: &Term) -> u32
     }
 }
 
-/// Whether the two are the same term.
+/// Whether the two are the same term. `sameness_is_equality` says that they then are equal.
 pub fn same(a: &Term, b: &Term) -> bool
-    ensures same { result ≡ true → tree_of a.now ≡ tree_of b.now }
-    ensures other { result ≡ false → tree_of a.now ≢ tree_of b.now }
+    ensures { result ≡ is_same (tree_of a.now) (tree_of b.now) }
 {
     match (a, b) {
         (Term::Lit(s), Term::Lit(t)) => s.same(t),

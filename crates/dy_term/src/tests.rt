@@ -108,7 +108,7 @@ fn the_text_of_a_term_is_read(rt: HostRuntime) -> Result<(), Fail> {
 }
 
 #[test]
-fn a_front_of_a_text_is_bad_at_its_end(rt: HostRuntime) {
+fn a_prefix_of_a_text_is_bad_at_its_end(rt: HostRuntime) {
     for length in 0..EACH.len() {
         assert_eq!(rt;
             read_short(rt.alloc(), &EACH[..length]).err(),
@@ -152,6 +152,50 @@ fn a_bad_text_is_refused_at_its_first_bad_byte(rt: HostRuntime) {
     }
 }
 
+/// Where the term at the beginning of fewer than 2^32 bytes ends.
+fn leading_end(alloc: Global, bytes: &[u8]) -> Result<usize, LeadingError> {
+    if bytes.len() > 4_000_000_000 {
+        return Err(LeadingError::Memory);
+    }
+    Ok(read_leading_term(alloc, bytes)?.end)
+}
+
+#[test]
+fn a_term_at_the_beginning_ends_before_what_follows(rt: HostRuntime) {
+    let texts: [(&[u8], usize); 8] = [
+        (b"@a, @b)", 2),
+        (b"@a_1", 4),
+        (b"#12)", 3),
+        (b"#01", 2),
+        (b"#4294967296", 10),
+        (b"\"a\"b\"", 3),
+        (b"pair(#1, #2), #3", 12),
+        (b"@A2345678901234567890123456789012_", 33),
+    ];
+    for (text, end) in texts {
+        assert_eq!(rt; leading_end(rt.alloc(), text), Ok(end), "{text:?}");
+    }
+}
+
+#[test]
+fn bytes_that_begin_with_no_term_are_refused(rt: HostRuntime) {
+    let texts: [(&[u8], u32); 6] = [
+        (b"", 0),
+        (b")", 0),
+        (b"@, #1", 1),
+        (b"\"a, #1", 6),
+        (b"pair(#1,#2)", 8),
+        (b"hash(@a\n", 7),
+    ];
+    for (text, at) in texts {
+        assert_eq!(rt;
+            leading_end(rt.alloc(), text),
+            Err(LeadingError::BadTerm { at }),
+            "{text:?}"
+        );
+    }
+}
+
 /// This text, so many times.
 fn times(count: usize, text: &[u8], all: &mut Vec<u8>) -> Result<(), Fail> {
     for _ in 0..count {
@@ -178,6 +222,15 @@ fn a_term_has_at_most_1024_nodes(rt: HostRuntime) -> Result<(), Fail> {
     assert_eq!(rt;
         read_short(rt.alloc(), &hashes(rt.alloc(), 1_024)?).err(),
         Some(TermError::TooLarge { nodes: 1_025 })
+    );
+    let mut more = hashes(rt.alloc(), 1_024)?;
+    more.extend_from_slice(b", #1")?;
+    assert_eq!(rt;
+        leading_end(rt.alloc(), &more),
+        Err(LeadingError::TooLarge {
+            nodes: 1_025,
+            end: 6_147
+        })
     );
     let mut pairs = Vec::new(rt.alloc());
     times(512, b"pair(#1, ", &mut pairs)?;

@@ -3,13 +3,14 @@ ghost use Rattle.std.specs.Str.{bytes_eq};
 ghost use Rattle.dy_term.specs.Characters.{is_text};
 
 use crate::characters::is_long_text;
+use crate::limits::MAX_LENGTH;
 use crate::short::Short;
 use std::marker::Model;
 
 /// A text: at most 32 printable ASCII characters other than `"` and `\`.
 #[derive(Debug, Drop)]
 pub struct Text {
-    kept: Short,
+    short: Short,
 }
 
 impl Model for Text {
@@ -18,9 +19,9 @@ impl Model for Text {
 
     ghost Value = { List ℕ };
 
-    ghost view = { λ t. t.kept };
+    ghost view = { λ t. t.short };
 
-    ghost invariant = { λ t. is_text t.kept ≡ true };
+    ghost invariant = { λ t. is_text t.short ≡ true };
 }
 
 impl Text {
@@ -28,7 +29,7 @@ impl Text {
         ensures { result ≡ [] }
     {
         Text {
-            kept: Short::new(&[]),
+            short: Short::new(&[]),
         }
     }
 
@@ -37,35 +38,35 @@ impl Text {
         ensures bytes { IfSome result (λ text. text ≡ bytes.now) }
         ensures found { IsSome result ↔ (is_text bytes.now ≡ true) }
     {
-        if is_long_text(bytes) && bytes.len() <= 32 {
+        if is_long_text(bytes) && bytes.len() <= MAX_LENGTH {
             Some(Text {
-                kept: Short::new(bytes),
+                short: Short::new(bytes),
             })
         } else {
             None
         }
     }
 
-    /// The text with this byte behind it, or `None` where that is none.
+    /// The text with this byte at its end, or `None` where that is none.
     pub(crate) fn with(&self, byte: u8) -> Option<Text>
         ensures bytes { IfSome result (λ longer. longer ≡ self.now ++ byte ∷ []) }
         ensures found { IsSome result ↔ (is_text (self.now ++ byte ∷ []) ≡ true) }
     {
-        Text::new(self.kept.with(byte)?.as_bytes())
+        Text::new(self.short.with(byte)?.as_bytes())
     }
 
     pub fn as_bytes(&self) -> &[u8]
         ensures bytes { result.now ≡ self.now }
         ensures text { is_text self.now ≡ true }
     {
-        self.kept.as_bytes()
+        self.short.as_bytes()
     }
 
     pub fn copy(&self) -> Text
         ensures { result ≡ self.now }
     {
         Text {
-            kept: self.kept.copy(),
+            short: self.short.copy(),
         }
     }
 

@@ -3,13 +3,14 @@ ghost use Rattle.std.specs.Str.{bytes_eq};
 ghost use Rattle.dy_term.specs.Characters.{is_word};
 
 use crate::characters::is_long_word;
+use crate::limits::MAX_LENGTH;
 use crate::short::Short;
 use std::marker::Model;
 
 /// A word: 1 to 32 bytes, a letter and then letters, digits or `_`.
 #[derive(Debug, Drop)]
 pub struct Word {
-    kept: Short,
+    short: Short,
 }
 
 impl Model for Word {
@@ -18,9 +19,9 @@ impl Model for Word {
 
     ghost Value = { List ℕ };
 
-    ghost view = { λ w. w.kept };
+    ghost view = { λ w. w.short };
 
-    ghost invariant = { λ w. is_word w.kept ≡ true };
+    ghost invariant = { λ w. is_word w.short ≡ true };
 }
 
 impl Word {
@@ -29,35 +30,35 @@ impl Word {
         ensures bytes { IfSome result (λ word. word ≡ bytes.now) }
         ensures found { IsSome result ↔ (is_word bytes.now ≡ true) }
     {
-        if is_long_word(bytes) && bytes.len() <= 32 {
+        if is_long_word(bytes) && bytes.len() <= MAX_LENGTH {
             Some(Word {
-                kept: Short::new(bytes),
+                short: Short::new(bytes),
             })
         } else {
             None
         }
     }
 
-    /// The word with this byte behind it, or `None` where that is none.
+    /// The word with this byte at its end, or `None` where that is none.
     pub(crate) fn with(&self, byte: u8) -> Option<Word>
         ensures bytes { IfSome result (λ longer. longer ≡ self.now ++ byte ∷ []) }
         ensures found { IsSome result ↔ (is_word (self.now ++ byte ∷ []) ≡ true) }
     {
-        Word::new(self.kept.with(byte)?.as_bytes())
+        Word::new(self.short.with(byte)?.as_bytes())
     }
 
     pub fn as_bytes(&self) -> &[u8]
         ensures bytes { result.now ≡ self.now }
         ensures word { is_word self.now ≡ true }
     {
-        self.kept.as_bytes()
+        self.short.as_bytes()
     }
 
     pub fn copy(&self) -> Word
         ensures { result ≡ self.now }
     {
         Word {
-            kept: self.kept.copy(),
+            short: self.short.copy(),
         }
     }
 

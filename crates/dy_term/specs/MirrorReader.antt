@@ -7,7 +7,7 @@ use Rattle.dy_term.specs.declared.reader.Reading.{Reading}
 use Rattle.dy_term.specs.declared.reader.Reading.TheVariants as reads
 use Rattle.dy_term.specs.declared.reader.Reader.{Reader}
 use Rattle.dy_term.specs.Meaning.{tree_of}
-use Rattle.dy_term.specs.TermSteps as steps
+use Rattle.dy_term.specs.MirrorSteps as steps
 
 abbrev pub part_of : Option Term → steps.Part
 part_of part = option_map tree_of part
@@ -24,13 +24,13 @@ begun_of (code.KdfInput key context) = steps.KdfInput (part_of key) context
 
 abbrev pub reading_of : Reading → steps.Reading
 reading_of reads.Due = steps.Due
-reading_of (reads.Front letters) = steps.Front letters
+reading_of (reads.Constructor letters) = steps.Constructor letters
 reading_of (reads.Chars text) = steps.Chars text
 reading_of reads.At = steps.At
 reading_of (reads.Letters word) = steps.Letters word
 reading_of reads.Sharp = steps.Sharp
 reading_of (reads.Digits number) = steps.Digits number
-reading_of (reads.Behind part) = steps.Behind (part_of part)
+reading_of (reads.After part) = steps.After (part_of part)
 reading_of reads.CommaDue = steps.CommaDue
 reading_of reads.SpaceDue = steps.SpaceDue
 reading_of (reads.ContextSpaceDue key) = steps.ContextSpaceDue (part_of key)
@@ -46,4 +46,4 @@ state_of reader = steps.state (reading_of reader.reading) (stack_of reader.begun
 
 -- the nodes that were read
 abbrev pub nodes_of : Reader → ℕ
-nodes_of reader = steps.counted (reading_of reader.reading) reader.nodes
+nodes_of reader = steps.nodes_read (reading_of reader.reading) reader.nodes

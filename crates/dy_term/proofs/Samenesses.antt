@@ -3,7 +3,7 @@ use Rattle.std.proofs.Common.{◌≡◌, ◌≢◌, Bool, true, false, ◌&&◌,
 use Rattle.std.proofs.lemmas.Slice.Eq.{bytes_eq-Decides}
 use Rattle.std.proofs.lemmas.Bool.{and_parts, and_from, cases_Bool, eqb-true}
 use Rattle.dy_term.specs.Terms.{Term, Lit, Name, Nonce, Pair, Pk, Vk, Penc, Aead, Sign, Mac, Kdf, Hash}
-use Rattle.dy_recipe.specs.Sameness.{is_same}
+use Rattle.dy_term.specs.Sameness.{is_same}
 
 pub is_same-refl : (a : Term) → is_same a a ≡ true
 is_same-refl (Lit text) = (bytes_eq-Decides text text).1 refl
@@ -34,16 +34,16 @@ is_same-equal (Penc a b) (Penc c d) same =
     let both = and_parts (is_same a c) (is_same b d) same in two Penc a b c d (is_same-equal a c both.0) (is_same-equal b d both.1)
 is_same-equal (Aead a b e) (Aead c d f) same =
     let parts = and_parts (is_same a c) (is_same b d && is_same e f) same in
-    let behind = and_parts (is_same b d) (is_same e f) parts.1 in
-    two (λ x y. Aead x y e) a b c d (is_same-equal a c parts.0) (is_same-equal b d behind.0) ∙ ap (Aead c d) (is_same-equal e f behind.1)
+    let after = and_parts (is_same b d) (is_same e f) parts.1 in
+    two (λ x y. Aead x y e) a b c d (is_same-equal a c parts.0) (is_same-equal b d after.0) ∙ ap (Aead c d) (is_same-equal e f after.1)
 is_same-equal (Sign a b) (Sign c d) same =
     let both = and_parts (is_same a c) (is_same b d) same in two Sign a b c d (is_same-equal a c both.0) (is_same-equal b d both.1)
 is_same-equal (Mac a b) (Mac c d) same =
     let both = and_parts (is_same a c) (is_same b d) same in two Mac a b c d (is_same-equal a c both.0) (is_same-equal b d both.1)
 is_same-equal (Kdf a context b) (Kdf c other d) same =
     let parts = and_parts (is_same a c) (bytes_eq context other && is_same b d) same in
-    let behind = and_parts (bytes_eq context other) (is_same b d) parts.1 in
-    two (λ x y. Kdf x context y) a b c d (is_same-equal a c parts.0) (is_same-equal b d behind.1) ∙ ap (λ z. Kdf c z d) ((bytes_eq-Decides context other).0 behind.0)
+    let after = and_parts (bytes_eq context other) (is_same b d) parts.1 in
+    two (λ x y. Kdf x context y) a b c d (is_same-equal a c parts.0) (is_same-equal b d after.1) ∙ ap (λ z. Kdf c z d) ((bytes_eq-Decides context other).0 after.0)
 is_same-equal (Hash a) (Hash c) same = ap Hash (is_same-equal a c same)
 is_same-equal a b same = (cc)
 
