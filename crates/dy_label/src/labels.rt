@@ -5,7 +5,7 @@ ghost use Rattle.dy_label.specs.LabelsMeaning.{place_of_reader, place_of_corrupt
 ghost use Rattle.dy_label.specs.MirrorNodes.{node_of, whole_of};
 ghost use Rattle.dy_label.specs.ShapesMeaning.{label_of_shape};
 
-use crate::label_nodes::{Node, Whole, append, push, same_nodes, split_last_run};
+use crate::label_nodes::{Node, Whole, same_nodes, split_last_run};
 use crate::readers::{Corruption, Reader, is_open_to};
 use dy_term::Memory;
 use std::alloc::Global;
@@ -74,7 +74,7 @@ impl Label {
         ensures { IfOk result (λ label. label ≡ labels.Public) }
     {
         let mut nodes = Vec::new(alloc);
-        push(&mut nodes, Node::Public)?;
+        nodes.push(Node::Public)?;
         Ok(Label { nodes })
     }
 
@@ -83,7 +83,7 @@ impl Label {
         ensures { IfOk result (λ label. label ≡ labels.Nobody) }
     {
         let mut nodes = Vec::new(alloc);
-        push(&mut nodes, Node::Nobody)?;
+        nodes.push(Node::Nobody)?;
         Ok(Label { nodes })
     }
 
@@ -92,7 +92,7 @@ impl Label {
         ensures { IfOk result (λ label. label ≡ labels.One (place_of_reader reader)) }
     {
         let mut nodes = Vec::new(alloc);
-        push(&mut nodes, Node::One(reader))?;
+        nodes.push(Node::One(reader))?;
         Ok(Label { nodes })
     }
 
@@ -144,7 +144,7 @@ fn label_of_two(whole: Whole, first: Label, second: Label) -> Result<Label, Memo
 {
     let mut nodes = parts(first, second)?;
     let length = nodes.len() + 1;
-    push(&mut nodes, whole.node(length))?;
+    nodes.push(whole.node(length))?;
     Ok(Label { nodes })
 }
 
@@ -153,8 +153,8 @@ fn parts(first: Label, second: Label) -> Result<Vec<Node>, Memory>
     ensures { IfOk result (λ nodes. map node_of nodes.items ≡ run_of first ++ run_of second) }
 {
     let Label { mut nodes } = first;
-    let Label { nodes: more } = second;
-    append(&mut nodes, more)?;
+    let Label { nodes: mut more } = second;
+    nodes.append(&mut more)?;
     Ok(nodes)
 }
 
@@ -163,7 +163,7 @@ fn copy_nodes(alloc: Global, nodes: &[Node]) -> Result<Vec<Node>, Memory>
 {
     let mut copied = Vec::new(alloc);
     for node in nodes {
-        push(&mut copied, node.copy())?;
+        copied.push(node.copy())?;
     }
     Ok(copied)
 }
