@@ -1,5 +1,5 @@
 -- The order in which states are looked up is total.
-use Rattle.std.proofs.Common.{◌≡◌, ℕ, true, false, sym, arith}
+use Rattle.std.proofs.Common.{◌≡◌, ℕ, true, false, arith}
 use Rattle.std.proofs.lemmas.Bool.Decides.{nat_tests}
 use Rattle.dy_label.specs.StateOrder.{comes_before}
 
