@@ -1,7 +1,7 @@
 ghost use Rattle.std.specs.Prelude.{◌≡◌, ◌≢◌, ◌≤◌, ◌⊎◌, ◌++◌, true, false, map, length, IfOk};
 ghost use Rattle.dy_label.specs.Labels as labels;
 ghost use Rattle.dy_label.specs.MirrorRuns.{run_of, last_node, nodes_of_parts, IsRun, AreTwoRuns, label_in};
-ghost use Rattle.dy_label.specs.LabelsMeaning.{place_of_reader, place_of_corruption};
+ghost use Rattle.dy_label.specs.LabelsMeaning.{place_of_reader, places_of};
 ghost use Rattle.dy_label.specs.MirrorNodes.{node_of, whole_of};
 ghost use Rattle.dy_label.specs.ShapesMeaning.{label_of_shape};
 
@@ -214,13 +214,13 @@ impl<'a> LabelView<'a> {
 /// loop that goes on with its larger part and asks the smaller one by a call, so calls stand in
 /// calls at most as often as the number of nodes can be halved.
 pub fn is_open(label: &Label, corruptions: &[Corruption]) -> bool
-    ensures { result ≡ labels.is_open (map place_of_corruption corruptions.now) label.now }
+    ensures { result ≡ labels.is_open (places_of corruptions.now) label.now }
 {
     is_view_open(label.whole(), corruptions)
 }
 
 fn is_view_open(label: LabelView<'_>, corruptions: &[Corruption]) -> bool
-    ensures { result ≡ labels.is_open (map place_of_corruption corruptions.now) label.entry }
+    ensures { result ≡ labels.is_open (places_of corruptions.now) label.entry }
 {
     let mut rest = label;
     loop {
