@@ -1,4 +1,6 @@
 pub mod BestCandidates
+pub mod Covered
 pub mod Derivations
-pub mod Messages
+pub mod MadeNonces
+pub mod Numbers
 pub mod Traces

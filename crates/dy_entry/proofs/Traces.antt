@@ -1,18 +1,18 @@
 -- Look-ups in a trace that grows at its end, and in a trace that a function takes to another.
-use Rattle.std.proofs.Common.{◌≡◌, ℕ, ◌+◌, ◌<◌, ◌≤◌, zero, suc, Bool, not, Some, ◌⊎◌, inl, inr, List, [], ◌∷◌, ◌++◌, map, max, take, length, get_or, refl, ap, sym, ◌∙◌, arith}
+use Rattle.std.proofs.Common.{◌≡◌, ℕ, ◌+◌, ◌<◌, ◌≤◌, zero, suc, Bool, not, Some, None, ◌⊎◌, inl, inr, List, [], ◌∷◌, ◌++◌, map, max, take, length, get_or, refl, ap, sym, ◌∙◌, arith}
 use Rattle.std.specs.List.{slice_get, position, prefix_len}
 use Rattle.std.proofs.lemmas.List.{length-map, length-take-le, map_more}
-use Rattle.dy_entry.specs.Entries.{Entry, Setup, Start, Fresh, Message, State, Event, Cert, End, Corrupt, Forge, Inject, Skip}
+use Rattle.dy_entry.specs.Entries.{Entry}
 use Rattle.dy_label.specs.declared.readers.Corruption.{Corruption}
 use Rattle.dy_entry.specs.declared.entries.Entry as declared
 use Rattle.dy_entry.specs.declared.entries.Entry.TheVariants as code
 use Rattle.dy_entry.specs.Meaning.{entry_of, entries_of}
-use Rattle.dy_entry.specs.LookUps.{corruptions, newest, version_in}
+use Rattle.dy_entry.specs.LookUps.{corruption_of, newest, version_in}
 
-pub slice_get-front : {X : Type 0} (xs ys : List X) (i : ℕ) (x : X) → slice_get xs i ≡ Some x → slice_get (xs ++ ys) i ≡ Some x
-slice_get-front [] ys i x e = absurd (cc)
-slice_get-front (z ∷ xs) ys zero x e = e
-slice_get-front (z ∷ xs) ys (suc i) x e = slice_get-front xs ys i x e
+pub slice_get-prefix : {X : Type 0} (xs ys : List X) (i : ℕ) (x : X) → slice_get xs i ≡ Some x → slice_get (xs ++ ys) i ≡ Some x
+slice_get-prefix [] ys i x e = absurd (cc)
+slice_get-prefix (z ∷ xs) ys zero x e = e
+slice_get-prefix (z ∷ xs) ys (suc i) x e = slice_get-prefix xs ys i x e
 
 pub slice_get-end : {X : Type 0} (xs : List X) (x : X) → slice_get (xs ++ x ∷ []) (length xs) ≡ Some x
 slice_get-end [] x = refl
@@ -37,38 +37,23 @@ pub one_more : (entries : List declared.Entry) (i : ℕ) (x : declared.Entry) �
     → entries_of (take (i + 1) entries) ≡ entries_of (take i entries) ++ entry_of x ∷ []
 one_more entries i x within at = map_more entry_of entries i x within ∙ ap (λ y. entries_of (take i entries) ++ entry_of y ∷ []) (sym at)
 
-pub length-front : (entries : List declared.Entry) (i : ℕ) → i ≤ length entries → length (entries_of (take i entries)) ≡ i
-length-front entries i within = length-map (take i entries) entry_of ∙ length-take-le i entries within
+pub length-prefix : (entries : List declared.Entry) (i : ℕ) → i ≤ length entries → length (entries_of (take i entries)) ≡ i
+length-prefix entries i within = length-map (take i entries) entry_of ∙ length-take-le i entries within
 
-pub corruptions-append : (T U : List Entry) → corruptions (T ++ U) ≡ corruptions T ++ corruptions U
-corruptions-append [] U = refl
-corruptions-append (Corrupt step corruption ∷ T) U = ap (λ more. corruption ∷ more) (corruptions-append T U)
-corruptions-append (Setup input ∷ T) U = corruptions-append T U
-corruptions-append (Start step handler principal session args message ∷ T) U = corruptions-append T U
-corruptions-append (Fresh instance label usage ∷ T) U = corruptions-append T U
-corruptions-append (Message instance value ∷ T) U = corruptions-append T U
-corruptions-append (State instance principal session version tag fields ∷ T) U = corruptions-append T U
-corruptions-append (Event instance principal name args ∷ T) U = corruptions-append T U
-corruptions-append (Cert instance principal usage key ∷ T) U = corruptions-append T U
-corruptions-append (End instance outcome ∷ T) U = corruptions-append T U
-corruptions-append (Forge step ∷ T) U = corruptions-append T U
-corruptions-append (Inject step value ∷ T) U = corruptions-append T U
-corruptions-append (Skip step ∷ T) U = corruptions-append T U
-
--- an entry that is no corruption adds none
-pub adds_none : (x : declared.Entry) → ((step : ℕ) (corruption : Corruption) → x ≡ code.Corrupt step corruption → ⊥) → corruptions (entry_of x ∷ []) ≡ []
-adds_none (code.Corrupt step corruption) other = absurd (other step corruption refl)
-adds_none (code.Setup input) other = refl
-adds_none (code.Start step handler principal session args message) other = refl
-adds_none (code.Fresh instance label usage) other = refl
-adds_none (code.Message instance value) other = refl
-adds_none (code.State instance principal session version tag fields) other = refl
-adds_none (code.Event instance principal name args) other = refl
-adds_none (code.Cert instance principal usage key) other = refl
-adds_none (code.End instance outcome) other = refl
-adds_none (code.Forge step) other = refl
-adds_none (code.Inject step value) other = refl
-adds_none (code.Skip step) other = refl
+-- an entry of the code that is no corruption takes nothing
+pub takes_nothing : (x : declared.Entry) → ((step : ℕ) (corruption : Corruption) → x ≡ code.Corrupt step corruption → ⊥) → corruption_of (entry_of x) ≡ None
+takes_nothing (code.Corrupt step corruption) other = absurd (other step corruption refl)
+takes_nothing (code.Setup input) other = refl
+takes_nothing (code.Start step handler principal session args message) other = refl
+takes_nothing (code.Fresh instance label usage) other = refl
+takes_nothing (code.Message instance value) other = refl
+takes_nothing (code.State instance principal session version tag fields) other = refl
+takes_nothing (code.Event instance principal name args) other = refl
+takes_nothing (code.Cert instance principal usage key) other = refl
+takes_nothing (code.End instance outcome) other = refl
+takes_nothing (code.Forge step) other = refl
+takes_nothing (code.Inject step value) other = refl
+takes_nothing (code.Skip step) other = refl
 
 pub newest-more : (T : List Entry) (e : Entry) (principal : List ℕ) (session : ℕ)
     → newest (T ++ e ∷ []) principal session ≡ max (version_in principal session e) (newest T principal session)

@@ -1,14 +1,9 @@
 -- What the attacker can derive from a trace. No label, usage or type is asked for.
-use Rattle.std.specs.Prelude.{◌≡◌, ℕ, Bool, true, List, Some, Contains}
-use Rattle.std.specs.List.{slice_get, list_any}
+use Rattle.std.specs.Prelude.{◌≡◌, ℕ, true, List, Some, Contains}
+use Rattle.std.specs.List.{slice_get}
 use Rattle.dy_term.specs.Terms.{Term, Lit, Name, Nonce, Pair, Pk, Vk, Penc, Aead, Sign, Mac, Kdf, Hash}
-use Rattle.dy_label.specs.Labels.{Version, covers}
 use Rattle.dy_entry.specs.Entries.{Entry, Message, State, Cert, Forge, Inject}
-use Rattle.dy_entry.specs.LookUps.{corruptions}
-
--- some corruption covers this version
-abbrev pub is_covered : List Entry → List ℕ → ℕ → ℕ → Bool
-is_covered T principal session version = list_any (λ corruption. covers corruption (Version principal session version)) (corruptions T)
+use Rattle.dy_entry.specs.LookUps.{is_covered}
 
 -- The least relation with these cases: what is given, what is built of derived parts, and what is opened.
 pub data Derives (T : List Entry) : Term → Type 0 where

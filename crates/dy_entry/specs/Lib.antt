@@ -1,8 +1,8 @@
 pub mod Attacker
-pub mod Candidates
-pub mod Counting
 pub mod Entries
 pub mod LookUps
 pub mod Meaning
+pub mod MirrorCounting
+pub mod MirrorLookUps
 pub mod Summaries
 pub mod ValueLabels

@@ -3,9 +3,9 @@ use Rattle.std.specs.Prelude.{List, map}
 use Rattle.dy_label.specs.LabelsMeaning.{place_of_corruption}
 use Rattle.dy_entry.specs.declared.entries.Entry as declared
 use Rattle.dy_entry.specs.declared.entries.Entry.TheVariants as code
-use Rattle.dy_entry.specs.declared.summaries.Counts.{Counts}
+use Rattle.dy_entry.specs.declared.summaries.Counts as summaries
 use Rattle.dy_entry.specs.Entries.{Entry, Setup, Start, Fresh, Message, State, Event, Cert, End, Corrupt, Forge, Inject, Skip}
-use Rattle.dy_entry.specs.Summaries.{Summary}
+use Rattle.dy_entry.specs.Summaries.{Counts}
 
 abbrev pub entry_of : declared.Entry → Entry
 entry_of (code.Setup input) = Setup input
@@ -24,8 +24,8 @@ entry_of (code.Skip step) = Skip step
 abbrev pub entries_of : List declared.Entry → List Entry
 entries_of entries = map entry_of entries
 
-abbrev pub summary_of : Counts → Summary
-summary_of counts = record {
+abbrev pub counts_of : summaries.Counts → Counts
+counts_of counts = record {
   total = counts.total;
   start = counts.start;
   fresh = counts.fresh;

@@ -52,7 +52,7 @@ is_skip (Skip step) = true
 is_skip e = false
 
 -- the counts of the entries of a trace, its Setup among the total alone
-pub record Summary : Type 0 where
+pub record Counts : Type 0 where
   pub total : ℕ
   pub start : ℕ
   pub fresh : ℕ
@@ -67,8 +67,8 @@ pub record Summary : Type 0 where
   pub inject : ℕ
   pub skip : ℕ
 
-abbrev pub summary : List Entry → Summary
-summary T = record {
+abbrev pub counts_in : List Entry → Counts
+counts_in T = record {
   total = length T;
   start = count_by is_start T;
   fresh = count_by is_fresh T;

@@ -1,6 +1,6 @@
 ghost use Rattle.std.specs.Prelude.{◌≡◌};
-ghost use Rattle.dy_entry.specs.LookUps.{comes_before, is_behind};
-ghost use Rattle.dy_entry.specs.Candidates.{preferred};
+ghost use Rattle.dy_label.specs.StateOrder.{comes_before, is_after};
+ghost use Rattle.dy_entry.specs.MirrorLookUps.{earlier_of};
 
 /// A session, and a version of its state.
 pub(crate) type Stored = (u32, u32);
@@ -16,9 +16,9 @@ fn comes_before(first: Stored, second: Stored) -> bool
     first.0 < second.0 || (first.0 == second.0 && second.1 < first.1)
 }
 
-/// Whether this version lies behind what is given, if anything is.
-fn is_behind(from: Option<Stored>, at: Stored) -> bool
-    ensures { result ≡ is_behind from at }
+/// Whether this version comes after what is given, if anything is.
+fn is_after(from: Option<Stored>, at: Stored) -> bool
+    ensures { result ≡ is_after from at }
 {
     match from {
         None => true,
@@ -26,20 +26,20 @@ fn is_behind(from: Option<Stored>, at: Stored) -> bool
     }
 }
 
-/// The earlier of what was found and another state at a later index, if that one lies behind what
+/// The earlier of what was found and another state at a later index, if that one comes after what
 /// is given.
-pub(crate) fn preferred(
+pub(crate) fn earlier_of(
     from: Option<Stored>,
     found: Option<Candidate>,
     other: Candidate,
 ) -> Option<Candidate>
-    ensures { result ≡ preferred from found other }
+    ensures { result ≡ earlier_of from found other }
 {
     let is_earlier = match found {
         None => true,
         Some(found) => comes_before(other.1, found.1),
     };
-    if is_behind(from, other.1) && is_earlier {
+    if is_after(from, other.1) && is_earlier {
         Some(other)
     } else {
         found

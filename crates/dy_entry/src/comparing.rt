@@ -3,7 +3,8 @@ ghost use Rattle.dy_entry.specs.Meaning.{entry_of};
 
 use crate::entries::Entry;
 use dy_flat::FlatTerm;
-use dy_term::Word;
+use dy_label::same_words;
+use dy_term::sameness_is_equality;
 
 impl Entry {
     /// Whether the two are the same entry.
@@ -13,34 +14,77 @@ impl Entry {
     {
         match (self, other) {
             (Entry::Setup(input), Entry::Setup(other)) => input.as_slice() == other.as_slice(),
-            (Entry::Start(i, h, p, s, a, m), Entry::Start(j, g, q, t, b, n)) => {
-                i == j
-                    && h.same(g)
-                    && p.same(q)
-                    && s == t
-                    && same_words(a.as_slice(), b.as_slice())
-                    && m == n
+            (
+                Entry::Start(step, handler, principal, session, args, message),
+                Entry::Start(
+                    other,
+                    other_handler,
+                    other_principal,
+                    other_session,
+                    other_args,
+                    other_message,
+                ),
+            ) => {
+                step == other
+                    && handler.same(other_handler)
+                    && principal.same(other_principal)
+                    && session == other_session
+                    && same_words(args.as_slice(), other_args.as_slice())
+                    && message == other_message
             }
-            (Entry::Fresh(i, l, u), Entry::Fresh(j, m, w)) => i == j && l.same(m) && u.same(w),
-            (Entry::Message(i, x), Entry::Message(j, y)) => i == j && same_term(x, y),
-            (Entry::State(i, p, s, v, a, x), Entry::State(j, q, t, w, b, y)) => {
-                i == j
-                    && p.same(q)
-                    && s == t
-                    && v == w
-                    && a.same(b)
-                    && same_terms(x.as_slice(), y.as_slice())
+            (Entry::Fresh(instance, label, usage), Entry::Fresh(other, other_label, other_usage)) =>
+                { instance == other && label.same(other_label) && usage.same(other_usage) }
+            (Entry::Message(instance, value), Entry::Message(other, other_value)) => {
+                instance == other && same_term(value, other_value)
             }
-            (Entry::Event(i, p, a, x), Entry::Event(j, q, b, y)) => {
-                i == j && p.same(q) && a.same(b) && same_terms(x.as_slice(), y.as_slice())
+            (
+                Entry::State(instance, principal, session, version, tag, fields),
+                Entry::State(
+                    other,
+                    other_principal,
+                    other_session,
+                    other_version,
+                    other_tag,
+                    other_fields,
+                ),
+            ) => {
+                instance == other
+                    && principal.same(other_principal)
+                    && session == other_session
+                    && version == other_version
+                    && tag.same(other_tag)
+                    && same_terms(fields.as_slice(), other_fields.as_slice())
             }
-            (Entry::Cert(i, p, a, x), Entry::Cert(j, q, b, y)) => {
-                i == j && p.same(q) && a.same(b) && same_term(x, y)
+            (
+                Entry::Event(instance, principal, name, args),
+                Entry::Event(other, other_principal, other_name, other_args),
+            ) => {
+                instance == other
+                    && principal.same(other_principal)
+                    && name.same(other_name)
+                    && same_terms(args.as_slice(), other_args.as_slice())
             }
-            (Entry::End(i, a), Entry::End(j, b)) => i == j && a == b,
-            (Entry::Corrupt(i, a), Entry::Corrupt(j, b)) => i == j && a.same(b),
-            (Entry::Inject(i, x), Entry::Inject(j, y)) => i == j && same_term(x, y),
-            (Entry::Forge(i), Entry::Forge(j)) | (Entry::Skip(i), Entry::Skip(j)) => i == j,
+            (
+                Entry::Cert(instance, principal, usage, key),
+                Entry::Cert(other, other_principal, other_usage, other_key),
+            ) => {
+                instance == other
+                    && principal.same(other_principal)
+                    && usage.same(other_usage)
+                    && same_term(key, other_key)
+            }
+            (Entry::End(instance, outcome), Entry::End(other, other_outcome)) => {
+                instance == other && outcome == other_outcome
+            }
+            (Entry::Corrupt(step, corruption), Entry::Corrupt(other, other_corruption)) => {
+                step == other && corruption.same(other_corruption)
+            }
+            (Entry::Inject(step, value), Entry::Inject(other, other_value)) => {
+                step == other && same_term(value, other_value)
+            }
+            (Entry::Forge(step), Entry::Forge(other)) | (Entry::Skip(step), Entry::Skip(other)) => {
+                step == other
+            }
             _ => false,
         }
     }
@@ -50,23 +94,8 @@ fn same_term(first: &FlatTerm, second: &FlatTerm) -> bool
     ensures same { result ≡ true → first.now ≡ second.now }
     ensures other { result ≡ false → first.now ≢ second.now }
 {
+    sameness_is_equality();
     dy_flat::same(first.whole(), second.whole())
-}
-
-/// Whether the two lists have the same words in the same order.
-fn same_words(words: &[Word], others: &[Word]) -> bool
-    ensures same { result ≡ true → words.now ≡ others.now }
-    ensures other { result ≡ false → words.now ≢ others.now }
-{
-    if words.len() != others.len() {
-        return false;
-    }
-    for i in 0..words.len() {
-        if !words[i].same(&others[i]) {
-            return false;
-        }
-    }
-    true
 }
 
 /// Whether the two lists have the same terms in the same order.

@@ -1,7 +1,7 @@
 ghost use Rattle.std.specs.Prelude.{◌≡◌, ◌<◌, ◌^◌, length};
-ghost use Rattle.dy_entry.specs.Summaries.{summary};
-ghost use Rattle.dy_entry.specs.Counting.{with_entry, HasRoom};
-ghost use Rattle.dy_entry.specs.Meaning.{entry_of, entries_of, summary_of};
+ghost use Rattle.dy_entry.specs.Summaries.{counts_in};
+ghost use Rattle.dy_entry.specs.MirrorCounting.{with_entry, HasRoom};
+ghost use Rattle.dy_entry.specs.Meaning.{entry_of, entries_of, counts_of};
 
 use crate::entries::Entry;
 use crate::summaries::Counts;
@@ -24,10 +24,10 @@ impl Counts {
         skip: 0,
     };
 
-    /// Counts one entry more.
+    /// Counts one more entry.
     fn add(&mut self, entry: &Entry)
-        requires { HasRoom (summary_of self.old) }
-        ensures { summary_of self.new ≡ with_entry (summary_of self.old) (entry_of entry.now) }
+        requires { HasRoom (counts_of self.old) }
+        ensures { counts_of self.new ≡ with_entry (counts_of self.old) (entry_of entry.now) }
     {
         self.total += 1;
         match entry {
@@ -51,7 +51,7 @@ impl Counts {
 /// How many entries of each kind there are. The entries are fewer than 2^32.
 pub fn counts(entries: &[Entry]) -> Counts
     requires { length entries.now < 2 ^ 32 }
-    ensures { summary_of result ≡ summary (entries_of entries.now) }
+    ensures { counts_of result ≡ counts_in (entries_of entries.now) }
 {
     let mut counts = Counts::NONE;
     for entry in entries {

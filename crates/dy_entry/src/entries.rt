@@ -2,7 +2,9 @@ ghost use Rattle.std.specs.Prelude.{◌≡◌};
 ghost use Rattle.std.specs.Option.{option_map};
 ghost use Rattle.dy_entry.specs.LookUps as look_ups;
 ghost use Rattle.dy_entry.specs.Meaning.{entry_of};
+ghost use Rattle.dy_entry.specs.MirrorLookUps.{covers_version, is_output};
 
+use crate::outputs::Output;
 use dy_flat::FlatTerm;
 use dy_label::{Corruption, Label, Outcome, Usage};
 use dy_term::Word;
@@ -40,61 +42,72 @@ pub enum Entry {
 }
 
 impl Entry {
+    /// Whether the entry is a corruption that covers this version.
+    pub(crate) fn covers(&self, principal: &Word, session: u32, version: u32) -> bool
+        ensures { result ≡ covers_version principal.now session version (entry_of self.now) }
+    {
+        let Entry::Corrupt(_, corruption) = self else {
+            return false;
+        };
+        corruption.covers(principal, session, version)
+    }
+
     /// Whether the entry is this version of this session of the principal.
     pub(crate) fn is_version_of(&self, principal: &Word, session: u32, version: u32) -> bool
         ensures { result ≡ look_ups.is_version_of principal.now session version (entry_of self.now) }
     {
-        let Entry::State(_, p, s, v, _, _) = self else {
+        let Entry::State(_, owner, stored_session, stored_version, _, _) = self else {
             return false;
         };
-        p.same(principal) && *s == session && *v == version
+        owner.same(principal) && *stored_session == session && *stored_version == version
     }
 
     /// The version that the entry stores in this session of the principal, or 0.
     pub(crate) fn version_in(&self, principal: &Word, session: u32) -> u32
         ensures { result ≡ look_ups.version_in principal.now session (entry_of self.now) }
     {
-        let Entry::State(_, p, s, v, _, _) = self else {
+        let Entry::State(_, owner, stored_session, version, _, _) = self else {
             return 0;
         };
-        if p.same(principal) && *s == session {
-            *v
+        if owner.same(principal) && *stored_session == session {
+            *version
         } else {
             0
         }
     }
 
     /// The session and version of a state of this principal and tag.
-    pub(crate) fn stored_as(&self, principal: &Word, tag: &Word) -> Option<(u32, u32)>
-        ensures { result ≡ look_ups.stored_as principal.now tag.now (entry_of self.now) }
+    pub(crate) fn place_of_state(&self, principal: &Word, tag: &Word) -> Option<(u32, u32)>
+        ensures { result ≡ look_ups.place_of_state principal.now tag.now (entry_of self.now) }
     {
-        let Entry::State(_, p, s, v, t, _) = self else {
+        let Entry::State(_, owner, session, version, stored_tag, _) = self else {
             return None;
         };
-        if p.same(principal) && t.same(tag) {
-            Some((*s, *v))
+        if owner.same(principal) && stored_tag.same(tag) {
+            Some((*session, *version))
         } else {
             None
         }
     }
 
     /// Whether the entry is a certificate of this principal for this usage.
-    pub(crate) fn is_cert_of(&self, principal: &Word, usage: &Word) -> bool
-        ensures { result ≡ look_ups.is_cert_of principal.now usage.now (entry_of self.now) }
+    pub(crate) fn is_cert_for(&self, principal: &Word, usage: &Word) -> bool
+        ensures { result ≡ look_ups.is_cert_for principal.now usage.now (entry_of self.now) }
     {
-        let Entry::Cert(_, p, u, _) = self else {
+        let Entry::Cert(_, owner, certified_usage, _) = self else {
             return false;
         };
-        p.same(principal) && u.same(usage)
+        owner.same(principal) && certified_usage.same(usage)
     }
 
-    /// Whether the entry is a message of this instance.
-    pub(crate) fn is_message_of(&self, instance: u32) -> bool
-        ensures { result ≡ look_ups.is_message_of instance (entry_of self.now) }
+    /// Whether the entry is an output of this kind and of this instance.
+    pub(crate) fn is_output(&self, output: Output, instance: u32) -> bool
+        ensures { result ≡ is_output output instance (entry_of self.now) }
     {
-        let Entry::Message(other, _) = self else {
-            return false;
-        };
-        *other == instance
+        match (self, output) {
+            (Entry::Message(of, _), Output::Message) | (Entry::Cert(of, ..), Output::Cert) => *of
+                == instance,
+            _ => false,
+        }
     }
 }

@@ -15,7 +15,7 @@ pub struct Counts {
     pub event: u32,
     /// Certificates.
     pub cert: u32,
-    /// Instances that end behind their last statement.
+    /// Instances that end after their last statement.
     pub done: u32,
     /// Instances that end at a statement.
     pub stopped: u32,

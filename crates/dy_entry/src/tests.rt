@@ -168,6 +168,13 @@ fn is_newest(entries: &[Entry], p: &[u8], s: u32, wanted: u32) -> bool {
     }
 }
 
+fn is_version_covered(entries: &[Entry], p: &[u8], s: u32, v: u32, wanted: bool) -> bool {
+    match Word::new(p) {
+        Some(p) => is_covered(entries, &p, s, v) == wanted,
+        None => false,
+    }
+}
+
 fn is_next(
     entries: &[Entry],
     p: &[u8],
@@ -258,6 +265,11 @@ fn certificates_and_messages_are_found(rt: HostRuntime) -> Result<(), Fail> {
     assert_eq!(rt; message_of(&entries, 1, 3), None);
     assert_eq!(rt; message_of(&entries, 5, 1), Some(7));
     assert_eq!(rt; message_of(&entries, 2, 1), None);
+    assert_eq!(rt; cert_of(&entries, 5, 0), None);
+    assert_eq!(rt; cert_of(&entries, 5, 1), Some(16));
+    assert_eq!(rt; cert_of(&entries, 5, 2), Some(17));
+    assert_eq!(rt; cert_of(&entries, 5, 3), None);
+    assert_eq!(rt; cert_of(&entries, 1, 1), None);
     Ok(())
 }
 
@@ -300,6 +312,50 @@ fn corruptions_are_all_found(rt: HostRuntime) -> Result<(), Fail> {
     let entries = trace(rt.alloc())?;
     let found = corruptions(rt.alloc(), &entries)?;
     assert!(rt; are_both(&found)?);
+    Ok(())
+}
+
+/// A trace of so many corruptions, of which that of each step takes alice's session of its number.
+fn many_corruptions(alloc: Global, steps: u32) -> Result<Vec<Entry>, Memory> {
+    let mut entries = Vec::new(alloc);
+    for step in 0..steps {
+        let session = Corruption::Session(word(b"alice")?, step);
+        if entries.push(Entry::Corrupt(step, session)).is_err() {
+            return Err(Memory);
+        }
+    }
+    Ok(entries)
+}
+
+#[test]
+fn corruptions_have_no_limit(rt: HostRuntime) -> Result<(), Fail> {
+    let entries = many_corruptions(rt.alloc(), 3000)?;
+    let found = corruptions(rt.alloc(), &entries)?;
+    assert_eq!(rt; found.len(), 3000);
+    let alice = word(b"alice")?;
+    assert!(rt;
+        found
+            .iter()
+            .any(|corruption| corruption.covers(&alice, 2999, 1))
+    );
+    assert!(rt; is_version_covered(&entries, b"alice", 2999, 1, true));
+    assert!(rt; is_version_covered(&entries, b"alice", 3000, 1, false));
+    Ok(())
+}
+
+#[test]
+fn versions_are_covered_by_corruptions(rt: HostRuntime) -> Result<(), Fail> {
+    let entries = trace(rt.alloc())?;
+    assert!(rt; is_version_covered(&entries, b"alice", 1, 1, true));
+    assert!(rt; is_version_covered(&entries, b"alice", 1, 7, true));
+    assert!(rt; is_version_covered(&entries, b"alice", 12, 1, false));
+    assert!(rt; is_version_covered(&entries, b"bob", 5, 1, true));
+    assert!(rt; is_version_covered(&entries, b"bob", 5, 2, false));
+    assert!(rt; is_version_covered(&entries, b"bob", 1, 1, false));
+    entries_are_what_they_mean();
+    corruptions_of_longer_traces();
+    covered_versions_are_open();
+    made_nonces_keep_their_labels();
     Ok(())
 }
 

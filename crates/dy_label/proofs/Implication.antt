@@ -3,11 +3,11 @@ use Rattle.std.proofs.Common.{◌≡◌, ◌↔◌, ℕ, ◌<◌, Bool, true, Li
 use Rattle.std.specs.List.{list_all}
 use Rattle.std.proofs.lemmas.Bool.{and_parts}
 use Rattle.dy_label.specs.Labels.{Place, is_open_where, Join}
-use Rattle.dy_label.specs.Words.{Atom, StaticLabel, Choice, uses_names_below, KeepsApart, is_version, Implies, ImpliesByVersions}
+use Rattle.dy_label.specs.Words.{Atom, StaticLabel, Choice, is_word_open, uses_names_below, KeepsApart, is_version, Implies, ImpliesByVersions}
 use Rattle.dy_label.specs.Tables.{opens_in, is_lawful, IsRowOf, ImpliesInRows, IsTableOf, IsWithin}
-use Rattle.dy_label.proofs.WordsOpen.{open-meant, open-alike, name_limit}
-use Rattle.dy_label.proofs.WordsLaw.{keeps_law, opened, keeps_law-opened}
-use Rattle.dy_label.proofs.WordsVersions.{letters, versions, all_versions, opened-versions, KeepsApart-letters}
+use Rattle.dy_label.proofs.WordsOpen.{open-meaning_of, open-alike, name_limit}
+use Rattle.dy_label.proofs.WordsLaw.{keeps_law, keeps_law-is_word_open}
+use Rattle.dy_label.proofs.WordsVersions.{letters, versions, all_versions, is_word_open-versions, KeepsApart-letters}
 use Rattle.dy_label.proofs.RowsOfWords.{row_of, row_of-lt, opens_in-row_of, is_lawful-row_of}
 
 -- Where words that keep to the law open the first label, they open the second.
@@ -16,8 +16,8 @@ ImpliesByWords l m = (reads : Atom → Bool) → keeps_law reads ≡ true → is
 
 implies-by_words : (l m : StaticLabel) → ImpliesByWords l m → Implies l m
 implies-by_words l m h = λ choice corruptions in_l.
-    open-meant choice corruptions m
-    ∙ h (opened choice corruptions) (keeps_law-opened choice corruptions) (sym (open-meant choice corruptions l) ∙ in_l)
+    open-meaning_of choice corruptions m
+    ∙ h (is_word_open choice corruptions) (keeps_law-is_word_open choice corruptions) (sym (open-meaning_of choice corruptions l) ∙ in_l)
 
 words-by_versions : (l m : StaticLabel) → ImpliesByVersions l m → ImpliesByWords l m
 words-by_versions l m h = λ reads law in_l.
@@ -25,9 +25,9 @@ words-by_versions l m h = λ reads law in_l.
     let names = limit.0 in
     let uses = and_parts (uses_names_below names l) (uses_names_below names m) limit.1 in
     let places = versions reads names in
-    let alike = opened-versions reads names law in
-    let meant_l = open-meant letters places l ∙ open-alike (opened letters places) reads names alike l uses.0 in
-    let meant_m = open-meant letters places m ∙ open-alike (opened letters places) reads names alike m uses.1 in
+    let alike = is_word_open-versions reads names law in
+    let meant_l = open-meaning_of letters places l ∙ open-alike (is_word_open letters places) reads names alike l uses.0 in
+    let meant_m = open-meaning_of letters places m ∙ open-alike (is_word_open letters places) reads names alike m uses.1 in
     sym meant_m ∙ h letters places (all_versions reads names) (meant_l ∙ in_l)
 
 -- Corruptions of whole sessions and principals add nothing.
@@ -63,11 +63,11 @@ implies-within l m first second uses_l uses_m of_l of_m =
 -- Each choice and all corruptions have a lawful row.
 pub row_of_choice : (choice : Choice) (corruptions : List Place) → (row : ℕ) × (row < 4096) × (is_lawful row ≡ true) × IsRowOf choice corruptions row
 row_of_choice choice corruptions =
-    let reads = opened choice corruptions in
-    (row_of reads, row_of-lt reads, is_lawful-row_of reads ∙ keeps_law-opened choice corruptions, opens_in-row_of reads)
+    let reads = is_word_open choice corruptions in
+    (row_of reads, row_of-lt reads, is_lawful-row_of reads ∙ keeps_law-is_word_open choice corruptions, opens_in-row_of reads)
 
 -- Each lawful row is that of a choice of different principals and of corruptions of versions.
 pub choice_of_row : (row : ℕ) → is_lawful row ≡ true
     → (choice : Choice) × (corruptions : List Place) × KeepsApart 9 choice × (list_all is_version corruptions ≡ true) × IsRowOf choice corruptions row
 choice_of_row row lawful =
-    (letters, versions (opens_in row) 9, KeepsApart-letters 9, all_versions (opens_in row) 9, λ atom h. sym (opened-versions (opens_in row) 9 lawful atom h))
+    (letters, versions (opens_in row) 9, KeepsApart-letters 9, all_versions (opens_in row) 9, λ atom h. sym (is_word_open-versions (opens_in row) 9 lawful atom h))

@@ -4,8 +4,8 @@ use Rattle.dy_label.specs.declared.label_nodes.Whole.{Whole}
 use Rattle.dy_label.specs.declared.label_nodes.Whole.TheVariants as kinds
 use Rattle.dy_label.specs.Labels as labels
 use Rattle.dy_label.specs.Labels.{Label}
-use Rattle.dy_label.specs.LabelRuns.{Node, run_of, last, behind, last_node, nodes_of_parts}
-use Rattle.dy_label.specs.NodesMeaning.{whole_of, whole_node}
+use Rattle.dy_label.specs.MirrorRuns.{Node, run_of, last, labels_after, last_node, nodes_of_parts}
+use Rattle.dy_label.specs.MirrorNodes.{whole_of, whole_node}
 use Rattle.dy_label.proofs.LabelRuns.{labels_from-runs_of, run_of-parts, run_is}
 
 -- the number of nodes
@@ -17,7 +17,7 @@ size (labels.Join first second) = size first + size second + 1
 size (labels.Meet first second) = size first + size second + 1
 
 -- Where a label's run is two runs and this node, the label is what the node makes of their two labels.
-pub label_of_parts : (label first second : Label) (node : Node) → node ≡ last_node label → run_of first ++ run_of second ≡ nodes_of_parts label → last (behind (second ∷ first ∷ []) node) ≡ label
+pub label_of_parts : (label first second : Label) (node : Node) → node ≡ last_node label → run_of first ++ run_of second ≡ nodes_of_parts label → last (labels_after (second ∷ first ∷ []) node) ≡ label
 label_of_parts label first second node end parts =
     let run : (run_of first ++ run_of second) ++ node ∷ [] ≡ run_of label = rw (parts, end) (sym (run_of-parts label)) in
     ap last (sym (labels_from-runs_of (second ∷ first ∷ []) (node ∷ []))) ∙ run_is _ label run

@@ -4,16 +4,16 @@ use Rattle.std.proofs.lemmas.List.{append-nil, length-map, map-append, length_pu
 use Rattle.std.proofs.Math.Seq.{take-append_seam, drop-append_seam}
 use Rattle.dy_label.specs.Labels as labels
 use Rattle.dy_label.specs.Labels.{Label}
-use Rattle.dy_label.specs.LabelRuns.{Node, run_of, runs_of, labels_from, labels_in, label_in, run_length, last_node, nodes_of_parts, IsRun, AreRuns}
-use Rattle.dy_label.specs.LabelCodes.{label_in-run_of, labels_from-run_of}
+use Rattle.dy_label.specs.MirrorRuns.{Node, run_of, runs_of, labels_from, labels_in, label_in, run_length, last_node, nodes_of_parts, IsRun, AreRuns}
+use Rattle.dy_label.specs.MirrorCodes.{label_in-run_of, labels_from-run_of}
 
--- runs stand for their labels, and what follows is read behind them
+-- runs stand for their labels, and what follows is read after them
 pub labels_from-runs_of : (before : List Label) (nodes : List Node) → labels_from [] (runs_of before ++ nodes) ≡ labels_from before nodes
 labels_from-runs_of [] nodes = refl
 labels_from-runs_of (label ∷ before) nodes =
     ap (labels_from []) (append_assoc (runs_of before) (run_of label) nodes) ∙ labels_from-runs_of before (run_of label ++ nodes) ∙ labels_from-run_of before label nodes
 
--- runs one behind the other stand for their labels
+-- runs one after the other stand for their labels
 pub labels_in-runs_of : (some : List Label) → labels_in (runs_of some) ≡ some
 labels_in-runs_of some = ap labels_in (sym (append-nil (runs_of some))) ∙ labels_from-runs_of some []
 

@@ -6,6 +6,7 @@ pub mod LabelsOpen
 pub mod Mapped
 pub mod RowBits
 pub mod RowsOfWords
+pub mod StateOrder
 pub mod WordsLaw
 pub mod WordsOpen
 pub mod WordsVersions

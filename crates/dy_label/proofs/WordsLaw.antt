@@ -1,25 +1,15 @@
 -- Which words of a handler can be open together: every choice and all corruptions keep to the law of words.
-use Rattle.std.proofs.Common.{◌≡◌, ℕ, Bool, true, false, not, ◌&&◌, ◌||◌, ◌==◌, List, [], ◌∷◌, refl, sym, inl, inr}
+use Rattle.std.proofs.Common.{◌≡◌, ℕ, Bool, true, false, not, ◌&&◌, ◌||◌, ◌==◌, List, [], ◌∷◌, refl, inl, inr}
 use Rattle.std.specs.List.{list_any}
 use Rattle.std.specs.Str.{bytes_eq}
-use Rattle.std.proofs.lemmas.Slice.Eq.{bytes_eq-Decides}
-use Rattle.std.proofs.lemmas.Bool.{and_parts, and_from, or_cases, or_left, or_right, eqb-true, eq-eqb}
-use Rattle.dy_label.specs.Labels.{Place, Principal, Session, Version, opens, is_open_to}
-use Rattle.dy_label.specs.Words.{Atom, Name, ThisSession, Next, Prior, Choice, place_of}
+use Rattle.std.proofs.lemmas.Bool.{and_parts, and_from, or_cases, or_left, or_right}
+use Rattle.dy_label.specs.Labels.{Place, Principal, Session, Version, opens}
+use Rattle.dy_label.proofs.LabelsOpen.{bytes_eq-turned, eqb-turned}
+use Rattle.dy_label.specs.Words.{Atom, Name, ThisSession, Next, Prior, Choice, is_word_open}
 
 -- A version is open only with its session, and a session only with its principal.
 abbrev pub keeps_law : (Atom → Bool) → Bool
 keeps_law reads = (not (reads Prior || reads Next) || reads ThisSession) && (not (reads ThisSession) || reads (Name 0))
-
--- the words that the corruptions open
-abbrev pub opened : Choice → List Place → Atom → Bool
-opened choice corruptions atom = is_open_to corruptions (place_of choice atom)
-
-bytes_eq-turned : (p q : List ℕ) → bytes_eq p q ≡ true → bytes_eq q p ≡ true
-bytes_eq-turned p q h = (bytes_eq-Decides q p).1 (sym ((bytes_eq-Decides p q).0 h))
-
-eqb-turned : (m n : ℕ) → (m == n) ≡ true → (n == m) ≡ true
-eqb-turned m n h = eq-eqb n m (sym (eqb-true m n h))
 
 opens-session : (p : List ℕ) (s v : ℕ) (corruption : Place) → opens (Version p s v) corruption ≡ true → opens (Session p s) corruption ≡ true
 opens-session p s v (Principal q) h = h
@@ -70,11 +60,11 @@ law_parts true next false own h = cc
 law_parts false true false own h = cc
 law_parts false false false own h = (λ a. a, λ a. a, λ a. cc)
 
-pub keeps_law-opened : (choice : Choice) (corruptions : List Place) → keeps_law (opened choice corruptions) ≡ true
-keeps_law-opened choice corruptions =
+pub keeps_law-is_word_open : (choice : Choice) (corruptions : List Place) → keeps_law (is_word_open choice corruptions) ≡ true
+keeps_law-is_word_open choice corruptions =
     let own = choice.principals 0 in
     let session = choice.session in
-    law_from (opened choice corruptions Prior) (opened choice corruptions Next) (opened choice corruptions ThisSession) (opened choice corruptions (Name 0))
+    law_from (is_word_open choice corruptions Prior) (is_word_open choice corruptions Next) (is_word_open choice corruptions ThisSession) (is_word_open choice corruptions (Name 0))
     (list_any-more (opens (Version own session choice.prior)) (opens (Session own session)) (opens-session own session choice.prior) corruptions)
     (list_any-more (opens (Version own session choice.next)) (opens (Session own session)) (opens-session own session choice.next) corruptions)
     (list_any-more (opens (Session own session)) (opens (Principal own)) (opens-principal own session) corruptions)

@@ -1,17 +1,14 @@
 -- A label over a handler's words is open as its words are.
-use Rattle.std.proofs.Common.{◌≡◌, ℕ, ◌+◌, ◌≤◌, Bool, true, ◌&&◌, List, refl, arith, inl, inr}
-use Rattle.std.proofs.lemmas.Bool.{and_parts, and_from, or_cases, or_left, or_right, lt-ltb, ltb-true}
+use Rattle.std.proofs.Common.{◌≡◌, ℕ, ◌+◌, ◌≤◌, Bool, true, ◌&&◌, List, Some, refl, arith}
+use Rattle.std.proofs.lemmas.Bool.{and_parts, and_from, lt-ltb, ltb-true}
 use Rattle.dy_label.specs.Labels.{Place, Public, Nobody, One, Join, Meet, is_open_where, is_open, is_open_to}
-use Rattle.dy_label.specs.Words.{Atom, Name, ThisSession, Next, Prior, StaticLabel, Choice, place_of, meant, is_below, uses_names_below}
+use Rattle.dy_label.specs.Words.{Atom, Name, ThisSession, Next, Prior, StaticLabel, Choice, place_of, meaning_of, is_word_open, is_below, uses_names_below}
+use Rattle.dy_label.proofs.LabelsOpen.{open-with_readers}
 
 -- what a label stands for is open as the places are that its words stand for
-pub open-meant : (choice : Choice) (corruptions : List Place) (label : StaticLabel)
-    → is_open corruptions (meant choice label) ≡ is_open_where (λ atom. is_open_to corruptions (place_of choice atom)) label
-open-meant choice corruptions Public = refl
-open-meant choice corruptions Nobody = refl
-open-meant choice corruptions (One atom) = refl
-open-meant choice corruptions (Join l m) = let in_l = open-meant choice corruptions l in let in_m = open-meant choice corruptions m in cc
-open-meant choice corruptions (Meet l m) = let in_l = open-meant choice corruptions l in let in_m = open-meant choice corruptions m in cc
+pub open-meaning_of : (choice : Choice) (corruptions : List Place) (label : StaticLabel)
+    → is_open corruptions (meaning_of choice label) ≡ is_open_where (is_word_open choice corruptions) label
+open-meaning_of choice corruptions label = open-with_readers (λ atom. Some (place_of choice atom)) (is_open_to corruptions) label
 
 -- A label is open alike where the words that it may use are open alike.
 pub open-alike : (reads other : Atom → Bool) (names : ℕ) → ((atom : Atom) → is_below names atom ≡ true → reads atom ≡ other atom)
@@ -27,20 +24,6 @@ open-alike reads other names alike (Meet l m) h =
     let parts = and_parts (uses_names_below names l) (uses_names_below names m) h in
     let in_l = open-alike reads other names alike l parts.0 in
     let in_m = open-alike reads other names alike m parts.1 in cc
-
--- A label does not close when more words open.
-pub open-more : (reads other : Atom → Bool) → ((atom : Atom) → reads atom ≡ true → other atom ≡ true)
-    → (label : StaticLabel) → is_open_where reads label ≡ true → is_open_where other label ≡ true
-open-more reads other more Public h = refl
-open-more reads other more Nobody h = h
-open-more reads other more (One atom) h = more atom h
-open-more reads other more (Join l m) h = elim (or_cases (is_open_where reads l) (is_open_where reads m) h) [
-  | inl p ↦ or_left (is_open_where other l) (is_open_where other m) (open-more reads other more l p)
-  | inr p ↦ or_right (is_open_where other l) (is_open_where other m) (open-more reads other more m p)
-]
-open-more reads other more (Meet l m) h =
-    let parts = and_parts (is_open_where reads l) (is_open_where reads m) h in
-    and_from (is_open_where other l) (is_open_where other m) (open-more reads other more l parts.0) (open-more reads other more m parts.1)
 
 is_below-more : (names more : ℕ) → names ≤ more → (atom : Atom) → is_below names atom ≡ true → is_below more atom ≡ true
 is_below-more names more h (Name number) k = let below = ltb-true number names k in lt-ltb number more (omega arith)

@@ -1,5 +1,5 @@
 -- Labels: who may read a value, and when corruptions have opened it to the attacker.
-use Rattle.std.specs.Prelude.{ℕ, Bool, true, false, ◌&&◌, ◌||◌, ◌==◌, List, [], ◌∷◌}
+use Rattle.std.specs.Prelude.{ℕ, Bool, true, false, ◌&&◌, ◌||◌, ◌==◌, List, [], ◌∷◌, Option, Some, None}
 use Rattle.std.specs.List.{list_any}
 use Rattle.std.specs.Str.{bytes_eq}
 
@@ -26,6 +26,10 @@ covers (Version p s v) (Version q t w) = bytes_eq p q && (s == t) && (v == w)
 abbrev pub opens : Place → Place → Bool
 opens reader corruption = covers reader corruption || covers corruption reader
 
+-- some of these corruptions covers the place
+abbrev pub is_covered_by : List Place → Place → Bool
+is_covered_by corruptions place = list_any (λ corruption. covers corruption place) corruptions
+
 -- A label over readers of any kind: a join is open when one of its parts is, a meet when both are.
 pub data LabelOf (A : Type 0) : Type 0 where
   Public : LabelOf A
@@ -41,6 +45,19 @@ is_open_where reads Nobody = false
 is_open_where reads (One reader) = reads reader
 is_open_where reads (Join first second) = is_open_where reads first || is_open_where reads second
 is_open_where reads (Meet first second) = is_open_where reads first && is_open_where reads second
+
+-- the label of this reader, or `nobody` where there is none
+abbrev pub one_or_nobody : {A : Type 0} → Option A → LabelOf A
+one_or_nobody None = Nobody
+one_or_nobody (Some reader) = One reader
+
+-- the label with other readers in the place of its own; what has none in its place is for nobody
+abbrev pub with_readers : {A B : Type 0} → (A → Option B) → LabelOf A → LabelOf B
+with_readers reader_for Public = Public
+with_readers reader_for Nobody = Nobody
+with_readers reader_for (One reader) = one_or_nobody (reader_for reader)
+with_readers reader_for (Join first second) = Join (with_readers reader_for first) (with_readers reader_for second)
+with_readers reader_for (Meet first second) = Meet (with_readers reader_for first) (with_readers reader_for second)
 
 -- a label of a trace, whose readers are places
 abbrev pub Label : Type 0

@@ -1,9 +1,10 @@
 pub mod Labels
-pub mod LabelCodes
-pub mod LabelRuns
 pub mod LabelsMeaning
-pub mod NodesMeaning
+pub mod MirrorCodes
+pub mod MirrorNodes
+pub mod MirrorRuns
 pub mod ShapesMeaning
+pub mod StateOrder
 pub mod Tables
 pub mod Words
 pub mod WordsMeaning

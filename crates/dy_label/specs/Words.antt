@@ -1,7 +1,8 @@
--- Labels over the words of a handler, and when one implies another.
-use Rattle.std.specs.Prelude.{◌≡◌, ℕ, ◌<◌, Bool, true, false, nat_lt, ◌&&◌, List}
+-- Labels over the words of a handler, what they stand for, and when one implies another.
+use Rattle.std.specs.Prelude.{◌≡◌, ℕ, ◌<◌, Bool, true, false, nat_lt, ◌&&◌, List, Some}
 use Rattle.std.specs.List.{list_all}
-use Rattle.dy_label.specs.Labels.{Place, Principal, Session, Version, LabelOf, Public, Nobody, One, Join, Meet, Label, is_open}
+use Rattle.dy_label.specs.Labels.{Place, Principal, Session, Version, is_open_to}
+use Rattle.dy_label.specs.Labels.{LabelOf, Public, Nobody, One, Join, Meet, Label, with_readers, is_open}
 
 -- A word that reads in a handler. Name 0 is the handler's own principal, `self`.
 pub data Atom : Type 0 where
@@ -49,17 +50,17 @@ KeepsApart names choice = (number other : ℕ) → number < names → other < na
     → choice.principals number ≡ choice.principals other → number ≡ other
 
 -- the label that a label over a handler's words stands for
-abbrev pub meant : Choice → StaticLabel → Label
-meant choice Public = Public
-meant choice Nobody = Nobody
-meant choice (One atom) = One (place_of choice atom)
-meant choice (Join first second) = Join (meant choice first) (meant choice second)
-meant choice (Meet first second) = Meet (meant choice first) (meant choice second)
+abbrev pub meaning_of : Choice → StaticLabel → Label
+meaning_of choice label = with_readers (λ atom. Some (place_of choice atom)) label
+
+-- some of these corruptions opens what the word stands for
+abbrev pub is_word_open : Choice → List Place → Atom → Bool
+is_word_open choice corruptions atom = is_open_to corruptions (place_of choice atom)
 
 -- The first label implies the second: for every choice and all corruptions, where the one is open so is the other.
 abbrev pub Implies : StaticLabel → StaticLabel → Type 0
 Implies first second = (choice : Choice) (corruptions : List Place)
-    → is_open corruptions (meant choice first) ≡ true → is_open corruptions (meant choice second) ≡ true
+    → is_open corruptions (meaning_of choice first) ≡ true → is_open corruptions (meaning_of choice second) ≡ true
 
 abbrev pub is_version : Place → Bool
 is_version (Principal principal) = false
@@ -69,4 +70,4 @@ is_version (Version principal session version) = true
 -- The first label implies the second as far as corruptions of single versions go.
 abbrev pub ImpliesByVersions : StaticLabel → StaticLabel → Type 0
 ImpliesByVersions first second = (choice : Choice) (corruptions : List Place) → list_all is_version corruptions ≡ true
-    → is_open corruptions (meant choice first) ≡ true → is_open corruptions (meant choice second) ≡ true
+    → is_open corruptions (meaning_of choice first) ≡ true → is_open corruptions (meaning_of choice second) ≡ true

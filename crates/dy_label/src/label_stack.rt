@@ -1,10 +1,10 @@
 ghost use Rattle.std.specs.Prelude.{◌≡◌, ◌≤◌, ◌↔◌, true, map, IsTrue, [], ◌∷◌, length, IsSome, IfSome, OnErr, OnOk};
 ghost use Rattle.dy_label.specs.Labels as labels;
-ghost use Rattle.dy_label.specs.LabelRuns.{behind, is_leaf};
+ghost use Rattle.dy_label.specs.MirrorRuns.{labels_after, is_leaf};
 ghost use Rattle.dy_label.specs.LabelsMeaning.{place_of_reader};
-ghost use Rattle.dy_label.specs.NodesMeaning.{node_of, whole_of};
+ghost use Rattle.dy_label.specs.MirrorNodes.{node_of, whole_of};
 
-use crate::label_nodes::{Node, Whole, length_of_two, push};
+use crate::label_nodes::{Node, Whole, length_of_two};
 use crate::labels::Label;
 use crate::readers::Reader;
 use dy_term::Memory;
@@ -22,14 +22,14 @@ pub struct LabelStack {
 impl Model for LabelStack {
     ghost use Rattle.std.specs.Prelude.{List, map};
     ghost use Rattle.dy_label.specs.Labels.{Label};
-    ghost use Rattle.dy_label.specs.LabelCodes.{labels_code};
+    ghost use Rattle.dy_label.specs.MirrorCodes.{labels_code};
 
     ghost Value = { List Label };
 
     ghost coded = { labels_code };
 
-    ghost use Rattle.dy_label.specs.LabelRuns.{labels_in, AreRuns};
-    ghost use Rattle.dy_label.specs.NodesMeaning.{node_of};
+    ghost use Rattle.dy_label.specs.MirrorRuns.{labels_in, AreRuns};
+    ghost use Rattle.dy_label.specs.MirrorNodes.{node_of};
 
     ghost view = { λ s. labels_in (map node_of s.nodes.items) };
 
@@ -37,6 +37,7 @@ impl Model for LabelStack {
 }
 
 impl LabelStack {
+    /// A stack of no labels.
     pub fn new(alloc: Global) -> LabelStack
         ensures { result ≡ [] }
     {
@@ -85,10 +86,10 @@ impl LabelStack {
 
     fn push_leaf(&mut self, leaf: Node) -> Result<(), Memory>
         requires { is_leaf (node_of leaf) ≡ true }
-        ensures ok { OnOk result (self.new ≡ behind self.old (node_of leaf)) }
+        ensures ok { OnOk result (self.new ≡ labels_after self.old (node_of leaf)) }
         ensures err { OnErr result (self.new ≡ self.old) }
     {
-        push(&mut self.nodes, leaf)?;
+        self.nodes.push(leaf)?;
         self.count += 1;
         Ok(())
     }
@@ -117,7 +118,7 @@ impl LabelStack {
         ensures err { OnErr result (self.new ≡ self.old) }
     {
         let length = length_of_two(&self.nodes);
-        push(&mut self.nodes, whole.node(length))?;
+        self.nodes.push(whole.node(length))?;
         self.count -= 1;
         Ok(())
     }

@@ -60,6 +60,33 @@ fn corruptions_open_readers(rt: HostRuntime) -> Result<(), Fail> {
     Ok(())
 }
 
+/// For each corruption, whether it covers version 2 or 3 of alice's session 7, or version 2 of 8.
+#[test]
+fn corruptions_cover_versions(rt: HostRuntime) -> Result<(), Fail> {
+    let alice = word(b"alice")?;
+    let wanted = [
+        [true, true, true],
+        [true, true, false],
+        [true, false, false],
+        [false, false, false],
+        [false, false, false],
+        [false, false, false],
+        [false, false, true],
+        [false, false, true],
+        [false, true, false],
+    ];
+    for (corruption, wanted) in corruptions(rt.alloc())?.into_iter().zip(wanted) {
+        let covered = [
+            corruption.covers(&alice, 7, 2),
+            corruption.covers(&alice, 7, 3),
+            corruption.covers(&alice, 8, 2),
+        ];
+        assert_eq!(rt; covered, wanted, "{corruption:?}");
+    }
+    versions_are_covered_where_they_are_open();
+    Ok(())
+}
+
 #[test]
 fn readers_and_corruptions_are_the_same_by_their_parts(rt: HostRuntime) -> Result<(), Fail> {
     for (i, reader) in readers(rt.alloc())?.iter().enumerate() {
@@ -152,7 +179,7 @@ fn nested_to_the_left(alloc: Global, levels: u32, reader: Reader) -> Result<Labe
         push_idle(&mut stack, level)?;
         put_together(&mut stack, level)?;
     }
-    finished(stack)
+    finish(stack)
 }
 
 fn nested_to_the_right(alloc: Global, levels: u32, reader: Reader) -> Result<Label, Fail> {
@@ -164,10 +191,10 @@ fn nested_to_the_right(alloc: Global, levels: u32, reader: Reader) -> Result<Lab
     for level in (0..levels).rev() {
         put_together(&mut stack, level)?;
     }
-    finished(stack)
+    finish(stack)
 }
 
-fn finished(stack: LabelStack) -> Result<Label, Fail> {
+fn finish(stack: LabelStack) -> Result<Label, Fail> {
     match stack.finish() {
         Some(label) => Ok(label),
         None => Err("no label")?,
@@ -231,7 +258,7 @@ fn a_stack_of_labels(rt: HostRuntime) -> Result<(), Fail> {
     stack.push_public()?;
     assert_eq!(rt; stack.len(), 2);
     stack.meet()?;
-    let label = finished(stack)?;
+    let label = finish(stack)?;
     let wanted = principal(rt.alloc(), b"alice")?
         .join(Label::nobody(rt.alloc())?)?
         .meet(Label::public(rt.alloc())?)?;
@@ -259,6 +286,8 @@ fn usages_are_the_same_by_their_parts(rt: HostRuntime) -> Result<(), Fail> {
     assert!(rt; !sig.same(&usage(rt.alloc(), Kind::Mac, &[b"alice", b"bob"])?));
     assert!(rt; !sig.same(&usage(rt.alloc(), Kind::Sig, &[b"bob", b"alice"])?));
     assert!(rt; !sig.same(&usage(rt.alloc(), Kind::Sig, &[b"alice"])?));
+    let owners = copy_words(rt.alloc(), sig.owners.as_slice())?;
+    assert!(rt; same_words(owners.as_slice(), sig.owners.as_slice()));
     assert!(rt; Outcome::Stopped(3) == Outcome::Stopped(3));
     assert!(rt; Outcome::Stopped(3) != Outcome::Done);
     for kind in [

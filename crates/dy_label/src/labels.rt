@@ -1,11 +1,11 @@
-ghost use Rattle.std.specs.Prelude.{◌≡◌, ◌≢◌, ◌⊎◌, ◌++◌, true, false, map, IfOk};
+ghost use Rattle.std.specs.Prelude.{◌≡◌, ◌≢◌, ◌≤◌, ◌⊎◌, ◌++◌, true, false, map, length, IfOk};
 ghost use Rattle.dy_label.specs.Labels as labels;
-ghost use Rattle.dy_label.specs.LabelRuns.{run_of, last_node, nodes_of_parts, IsRun, AreTwoRuns, label_in};
-ghost use Rattle.dy_label.specs.LabelsMeaning.{place_of_reader, place_of_corruption};
-ghost use Rattle.dy_label.specs.NodesMeaning.{node_of, whole_of};
+ghost use Rattle.dy_label.specs.MirrorRuns.{run_of, last_node, nodes_of_parts, IsRun, AreTwoRuns, label_in};
+ghost use Rattle.dy_label.specs.LabelsMeaning.{place_of_reader, places_of};
+ghost use Rattle.dy_label.specs.MirrorNodes.{node_of, whole_of};
 ghost use Rattle.dy_label.specs.ShapesMeaning.{label_of_shape};
 
-use crate::label_nodes::{Node, Whole, append, push, same_nodes, split_last_run};
+use crate::label_nodes::{Node, Whole, same_nodes, split_last_run};
 use crate::readers::{Corruption, Reader, is_open_to};
 use dy_term::Memory;
 use std::alloc::Global;
@@ -20,15 +20,15 @@ pub struct Label {
 
 impl Model for Label {
     ghost use Rattle.dy_label.specs.Labels.{Label};
-    ghost use Rattle.dy_label.specs.LabelCodes.{label_code};
+    ghost use Rattle.dy_label.specs.MirrorCodes.{label_code};
 
     ghost Value = { Label };
 
     ghost coded = { label_code };
 
     ghost use Rattle.std.specs.Prelude.{map};
-    ghost use Rattle.dy_label.specs.LabelRuns.{label_in, IsRun};
-    ghost use Rattle.dy_label.specs.NodesMeaning.{node_of};
+    ghost use Rattle.dy_label.specs.MirrorRuns.{label_in, IsRun};
+    ghost use Rattle.dy_label.specs.MirrorNodes.{node_of};
 
     ghost view = { λ l. label_in (map node_of l.nodes.items) };
 
@@ -43,15 +43,15 @@ pub struct LabelView<'a> {
 
 impl<'a> Model for LabelView<'a> {
     ghost use Rattle.dy_label.specs.Labels.{Label};
-    ghost use Rattle.dy_label.specs.LabelCodes.{label_code};
+    ghost use Rattle.dy_label.specs.MirrorCodes.{label_code};
 
     ghost Value = { Label };
 
     ghost coded = { label_code };
 
     ghost use Rattle.std.specs.Prelude.{map};
-    ghost use Rattle.dy_label.specs.LabelRuns.{label_in, IsRun};
-    ghost use Rattle.dy_label.specs.NodesMeaning.{node_of};
+    ghost use Rattle.dy_label.specs.MirrorRuns.{label_in, IsRun};
+    ghost use Rattle.dy_label.specs.MirrorNodes.{node_of};
 
     ghost view = { λ l. label_in (map node_of l.nodes.now) };
 
@@ -74,7 +74,7 @@ impl Label {
         ensures { IfOk result (λ label. label ≡ labels.Public) }
     {
         let mut nodes = Vec::new(alloc);
-        push(&mut nodes, Node::Public)?;
+        nodes.push(Node::Public)?;
         Ok(Label { nodes })
     }
 
@@ -83,7 +83,7 @@ impl Label {
         ensures { IfOk result (λ label. label ≡ labels.Nobody) }
     {
         let mut nodes = Vec::new(alloc);
-        push(&mut nodes, Node::Nobody)?;
+        nodes.push(Node::Nobody)?;
         Ok(Label { nodes })
     }
 
@@ -92,7 +92,7 @@ impl Label {
         ensures { IfOk result (λ label. label ≡ labels.One (place_of_reader reader)) }
     {
         let mut nodes = Vec::new(alloc);
-        push(&mut nodes, Node::One(reader))?;
+        nodes.push(Node::One(reader))?;
         Ok(Label { nodes })
     }
 
@@ -101,7 +101,7 @@ impl Label {
     pub fn join(self, second: Label) -> Result<Label, Memory>
         ensures { IfOk result (λ label. label ≡ labels.Join self second) }
     {
-        made_of(Whole::Join, self, second)
+        label_of_two(Whole::Join, self, second)
     }
 
     /// The label that is open where both are. This moves the nodes of `second`; a label of many
@@ -109,7 +109,7 @@ impl Label {
     pub fn meet(self, second: Label) -> Result<Label, Memory>
         ensures { IfOk result (λ label. label ≡ labels.Meet self second) }
     {
-        made_of(Whole::Meet, self, second)
+        label_of_two(Whole::Meet, self, second)
     }
 
     /// Whether the two are the same label.
@@ -120,6 +120,7 @@ impl Label {
         same_nodes(&self.nodes, &other.nodes)
     }
 
+    /// An equal label, in memory of its own.
     pub fn copy(&self, alloc: Global) -> Result<Label, Memory>
         ensures { IfOk result (λ label. label ≡ self.now) }
     {
@@ -138,22 +139,22 @@ impl Label {
 }
 
 /// The label of this kind whose parts the two are.
-fn made_of(whole: Whole, first: Label, second: Label) -> Result<Label, Memory>
+fn label_of_two(whole: Whole, first: Label, second: Label) -> Result<Label, Memory>
     ensures { IfOk result (λ label. label ≡ whole_of whole first second) }
 {
     let mut nodes = parts(first, second)?;
     let length = nodes.len() + 1;
-    push(&mut nodes, whole.node(length))?;
+    nodes.push(whole.node(length))?;
     Ok(Label { nodes })
 }
 
-/// The nodes of the two labels, one behind the other.
+/// The nodes of the two labels, one after the other.
 fn parts(first: Label, second: Label) -> Result<Vec<Node>, Memory>
     ensures { IfOk result (λ nodes. map node_of nodes.items ≡ run_of first ++ run_of second) }
 {
     let Label { mut nodes } = first;
-    let Label { nodes: more } = second;
-    append(&mut nodes, more)?;
+    let Label { nodes: mut more } = second;
+    nodes.append(&mut more)?;
     Ok(nodes)
 }
 
@@ -162,7 +163,7 @@ fn copy_nodes(alloc: Global, nodes: &[Node]) -> Result<Vec<Node>, Memory>
 {
     let mut copied = Vec::new(alloc);
     for node in nodes {
-        push(&mut copied, node.copy())?;
+        copied.push(node.copy())?;
     }
     Ok(copied)
 }
@@ -213,13 +214,13 @@ impl<'a> LabelView<'a> {
 /// loop that goes on with its larger part and asks the smaller one by a call, so calls stand in
 /// calls at most as often as the number of nodes can be halved.
 pub fn is_open(label: &Label, corruptions: &[Corruption]) -> bool
-    ensures { result ≡ labels.is_open (map place_of_corruption corruptions.now) label.now }
+    ensures { result ≡ labels.is_open (places_of corruptions.now) label.now }
 {
     is_view_open(label.whole(), corruptions)
 }
 
 fn is_view_open(label: LabelView<'_>, corruptions: &[Corruption]) -> bool
-    ensures { result ≡ labels.is_open (map place_of_corruption corruptions.now) label.entry }
+    ensures { result ≡ labels.is_open (places_of corruptions.now) label.entry }
 {
     let mut rest = label;
     loop {
@@ -247,8 +248,9 @@ fn is_view_open(label: LabelView<'_>, corruptions: &[Corruption]) -> bool
 
 /// The two labels, the one of fewer nodes first.
 fn smaller_first<'a>(first: LabelView<'a>, second: LabelView<'a>) -> (LabelView<'a>, LabelView<'a>)
-    ensures { ((result.0 ≡ first.entry) × (result.1 ≡ second.entry))
+    ensures both { ((result.0 ≡ first.entry) × (result.1 ≡ second.entry))
         ⊎ ((result.0 ≡ second.entry) × (result.1 ≡ first.entry)) }
+    ensures shorter { length (run_of result.0) ≤ length (run_of result.1) }
 {
     if first.nodes.len() <= second.nodes.len() {
         (first, second)

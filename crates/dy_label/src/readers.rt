@@ -1,6 +1,6 @@
 ghost use Rattle.std.specs.Prelude.{◌≡◌, ◌≢◌, true, false};
 ghost use Rattle.std.specs.List.{list_any};
-ghost use Rattle.dy_label.specs.Labels.{opens};
+ghost use Rattle.dy_label.specs.Labels.{Version, covers, opens};
 ghost use Rattle.dy_label.specs.LabelsMeaning.{place_of_reader, place_of_corruption};
 
 use dy_term::Word;
@@ -27,6 +27,7 @@ impl Reader {
         }
     }
 
+    /// An equal reader.
     pub fn copy(&self) -> Reader
         ensures { result ≡ self.now }
     {
@@ -63,6 +64,19 @@ impl Corruption {
         }
     }
 
+    /// Whether the corruption covers this version of this session of the principal, so that the
+    /// attacker has what is stored there.
+    pub fn covers(&self, principal: &Word, session: u32, version: u32) -> bool
+        ensures { result ≡ covers (place_of_corruption self.now) (Version principal.now session version) }
+    {
+        match self {
+            Corruption::Principal(p) => p.same(principal),
+            Corruption::Session(p, s) => p.same(principal) && *s == session,
+            Corruption::Version(p, s, v) => p.same(principal) && *s == session && *v == version,
+        }
+    }
+
+    /// An equal corruption.
     pub fn copy(&self) -> Corruption
         ensures { result ≡ self.now }
     {
@@ -93,7 +107,8 @@ fn opens(reader: &Reader, corruption: &Corruption) -> bool
 
 /// Whether some of the corruptions opens the reader.
 pub(crate) fn is_open_to(corruptions: &[Corruption], reader: &Reader) -> bool
-    ensures { result ≡ list_any (λ corruption. opens (place_of_reader reader.now) (place_of_corruption corruption)) corruptions.now }
+    ensures { result ≡
+        list_any (λ corruption. opens (place_of_reader reader.now) (place_of_corruption corruption)) corruptions.now }
 {
     corruptions
         .iter()

@@ -5,6 +5,7 @@ ghost use Rattle.dy_label.specs.WordsMeaning.{static_label_of};
 use super::*;
 use crate::label_nodes::Whole;
 use crate::{Atom, Scope, StaticLabel};
+use dy_term::Word;
 use std::alloc::{AllocError, Global};
 use std::process::Abort;
 use std::test::*;
@@ -18,7 +19,7 @@ fn name(number: u8) -> StaticLabel
 }
 
 /// The label of this kind whose parts the two are.
-fn made_of(
+fn label_of_two(
     alloc: Global,
     whole: Whole,
     first: StaticLabel,
@@ -111,14 +112,25 @@ fn words_of_one_session(rt: HostRuntime) {
 #[test]
 fn joins_and_meets(rt: HostRuntime) -> Result<(), Fail> {
     let alloc = rt.alloc();
-    let either = made_of(alloc, Whole::Join, name(1), name(2))?;
+    let either = label_of_two(alloc, Whole::Join, name(1), name(2))?;
     assert!(rt; !implies(&rt, &either, &name(1)));
     assert!(rt; implies(&rt, &name(1), &either));
-    let both = made_of(alloc, Whole::Meet, name(1), StaticLabel::One(Atom::Next))?;
+    let both = label_of_two(alloc, Whole::Meet, name(1), StaticLabel::One(Atom::Next))?;
     assert!(rt; implies(&rt, &both, &name(0)));
     assert!(rt; implies(&rt, &both, &name(1)));
     assert!(rt; !implies(&rt, &name(1), &both));
     Ok(())
+}
+
+#[test]
+fn laws_are_called(_rt: HostRuntime) {
+    labels_are_open_as_their_words_are();
+    readers_are_put_in_place::<Word>();
+    states_are_in_one_order();
+    implication_by_rows();
+    choices_and_rows();
+    versions_decide_implication();
+    tables_never_fall();
 }
 
 #[test]
@@ -144,9 +156,9 @@ fn either_pair(
     requires d { uses_names_below 9 (static_label_of d) ≡ true }
     ensures { IfOk result (λ label. uses_names_below 9 (static_label_of label) ≡ true) }
 {
-    let first = made_of(alloc, Whole::Meet, a, b)?;
-    let second = made_of(alloc, Whole::Meet, c, d)?;
-    made_of(alloc, Whole::Join, first, second)
+    let first = label_of_two(alloc, Whole::Meet, a, b)?;
+    let second = label_of_two(alloc, Whole::Meet, c, d)?;
+    label_of_two(alloc, Whole::Join, first, second)
 }
 
 /// The names 0 to 7 by pairs, of which one is open.
@@ -155,7 +167,7 @@ fn some_pair(alloc: Global) -> Result<StaticLabel, AllocError>
 {
     let low = either_pair(alloc, name(0), name(1), name(2), name(3))?;
     let high = either_pair(alloc, name(4), name(5), name(6), name(7))?;
-    made_of(alloc, Whole::Join, low, high)
+    label_of_two(alloc, Whole::Join, low, high)
 }
 
 // 16 leaves, with nine names and every other word. Its second half is open just where `self` is:
@@ -174,9 +186,9 @@ fn a_label_of_the_greatest_size(rt: HostRuntime) -> Result<(), Fail> {
         StaticLabel::Nobody,
         name(1),
     )?;
-    let own = made_of(alloc, Whole::Join, words, rest)?;
-    let label = made_of(alloc, Whole::Meet, some_pair(alloc)?, own)?;
-    let short = made_of(alloc, Whole::Meet, some_pair(alloc)?, name(0))?;
+    let own = label_of_two(alloc, Whole::Join, words, rest)?;
+    let label = label_of_two(alloc, Whole::Meet, some_pair(alloc)?, own)?;
+    let short = label_of_two(alloc, Whole::Meet, some_pair(alloc)?, name(0))?;
     assert!(rt; implies(&rt, &label, &short));
     assert!(rt; implies(&rt, &short, &label));
     assert!(rt; implies(&rt, &label, &name(0)));

@@ -5,14 +5,36 @@ ghost use Rattle.dy_label.specs.Words.{is_below, uses_names_below, Implies};
 ghost use Rattle.dy_label.specs.Tables.{is_set, bit_of, opens_in, value_at, IsTableOf, IsWithin};
 ghost use Rattle.dy_label.specs.WordsMeaning.{atom_of, static_label_of};
 
-use crate::words::{Atom, Scope, StaticLabel};
+use crate::words::{Atom, NAMES, Scope, StaticLabel};
 
-/// The truth table of a label over a handler's words. It has 64 blocks of 64 rows: row r stands at
-/// bit `r % 64` of block `r / 64`. In the number r the bits 0 to 8 say which names are open, bit 9
-/// is the session, bit 10 the prior version and bit 11 the next one.
-pub type Table = [u64; 64];
+/// In a row's number the bits before this one say which names are open, and this one whether the
+/// session is.
+pub const SESSION_BIT: u8 = NAMES;
 
-/// Of the 64 rows of a block, those in which each of the bits 0 to 5 of the row's number is set.
+/// The bit of a row's number for the prior version.
+pub const PRIOR_BIT: u8 = 10;
+
+/// The bit of a row's number for the next version.
+pub const NEXT_BIT: u8 = 11;
+
+/// How many bits a row's number has.
+pub const ROW_BITS: u8 = 12;
+
+/// How many rows a table has.
+pub const ROWS: usize = 4096;
+
+/// How many rows a block of a table has, one for each of its bits.
+pub const BLOCK_ROWS: usize = 64;
+
+/// How many blocks a table has.
+pub const BLOCKS: usize = 64;
+
+/// The truth table of a label over a handler's words, in blocks of rows: row r stands at bit
+/// `r % BLOCK_ROWS` of block `r / BLOCK_ROWS`.
+pub type Table = [u64; BLOCKS];
+
+/// The rows of a block, by the bits of a row's number that are set in them: one number for each bit
+/// that says which row of the block it is.
 const ROWS_WITH: [u64; 6] = [
     0xaaaa_aaaa_aaaa_aaaa,
     0xcccc_cccc_cccc_cccc,
@@ -40,7 +62,7 @@ const LAWFUL: [u64; 8] = [
 fn bit_for(atom: Atom, scope: &Scope) -> u8
     requires { is_below scope.now (atom_of atom) ≡ true }
     ensures bit { result ≡ bit_of (atom_of atom) }
-    ensures range { result < 12 }
+    ensures range { result < ROW_BITS }
 {
     let names = scope.names();
     match atom {
@@ -48,17 +70,17 @@ fn bit_for(atom: Atom, scope: &Scope) -> u8
             prove!(number < names);
             number
         }
-        Atom::Session => 9,
-        Atom::Prior => 10,
-        Atom::Next => 11,
+        Atom::Session => SESSION_BIT,
+        Atom::Prior => PRIOR_BIT,
+        Atom::Next => NEXT_BIT,
     }
 }
 
 /// The rows of this block of a table in which this bit of the row's number is set.
 fn rows_with(bit: u8, block: u8) -> u64
-    requires bit { bit < 12 }
-    requires block { block < 64 }
-    ensures { (place : ℕ) → place < 64 → is_set result place ≡ is_set (block * 64 + place) bit }
+    requires bit { bit < ROW_BITS }
+    requires block { block < BLOCKS }
+    ensures { (place : ℕ) → place < BLOCK_ROWS → is_set result place ≡ is_set (block * BLOCK_ROWS + place) bit }
 {
     if bit < 6 {
         ROWS_WITH[bit as usize]
@@ -72,11 +94,11 @@ fn rows_with(bit: u8, block: u8) -> u64
 /// The table in which those rows are set in which the word is open.
 fn table_of_atom(atom: Atom, scope: &Scope) -> Table
     requires { is_below scope.now (atom_of atom) ≡ true }
-    ensures { (row : ℕ) → row < 4096 → value_at result row ≡ opens_in row (atom_of atom) }
+    ensures { (row : ℕ) → row < ROWS → value_at result row ≡ opens_in row (atom_of atom) }
 {
     let bit = bit_for(atom, scope);
-    let mut table = [0; 64];
-    for block in 0..64u8 {
+    let mut table = [0; BLOCKS];
+    for block in 0..BLOCKS as u8 {
         table[block as usize] = rows_with(bit, block);
     }
     table
@@ -84,16 +106,16 @@ fn table_of_atom(atom: Atom, scope: &Scope) -> Table
 
 /// The table in which each row is set.
 fn every_row() -> Table
-    ensures { (row : ℕ) → row < 4096 → value_at result row ≡ true }
+    ensures { (row : ℕ) → row < ROWS → value_at result row ≡ true }
 {
-    [u64::MAX; 64]
+    [u64::MAX; BLOCKS]
 }
 
 /// The table in which no row is set.
 fn no_row() -> Table
-    ensures { (row : ℕ) → row < 4096 → value_at result row ≡ false }
+    ensures { (row : ℕ) → row < ROWS → value_at result row ≡ false }
 {
-    [0; 64]
+    [0; BLOCKS]
 }
 
 /// The table that has in each row the label's truth value there. The label uses names of the scope
@@ -113,13 +135,13 @@ pub fn table_of(label: &StaticLabel, scope: &Scope) -> Table
 
 /// The table that is set where one of the two is: of two labels' tables that of their join.
 pub fn join(first: &Table, second: &Table) -> Table
-    ensures rows { (row : ℕ) → row < 4096 →
+    ensures rows { (row : ℕ) → row < ROWS →
         value_at result row ≡ (value_at first.now row || value_at second.now row) }
     ensures labels { (l m : words.StaticLabel) →
         IsTableOf l first.now → IsTableOf m second.now → IsTableOf (Join l m) result }
 {
-    let mut table = [0; 64];
-    for block in 0..64 {
+    let mut table = [0; BLOCKS];
+    for block in 0..BLOCKS {
         table[block] = first[block] | second[block];
     }
     table
@@ -127,13 +149,13 @@ pub fn join(first: &Table, second: &Table) -> Table
 
 /// The table that is set where both are: of two labels' tables that of their meet.
 pub fn meet(first: &Table, second: &Table) -> Table
-    ensures rows { (row : ℕ) → row < 4096 →
+    ensures rows { (row : ℕ) → row < ROWS →
         value_at result row ≡ (value_at first.now row && value_at second.now row) }
     ensures labels { (l m : words.StaticLabel) →
         IsTableOf l first.now → IsTableOf m second.now → IsTableOf (Meet l m) result }
 {
-    let mut table = [0; 64];
-    for block in 0..64 {
+    let mut table = [0; BLOCKS];
+    for block in 0..BLOCKS {
         table[block] = first[block] & second[block];
     }
     table
@@ -141,7 +163,7 @@ pub fn meet(first: &Table, second: &Table) -> Table
 
 /// Whether each of these lawful rows of one block that is set in the first table is set in the second.
 fn block_within(first: u64, second: u64, lawful: u64) -> bool
-    ensures { IsTrue result ↔ ((place : ℕ) → place < 64 →
+    ensures { IsTrue result ↔ ((place : ℕ) → place < BLOCK_ROWS →
         is_set lawful place ≡ true → is_set first place ≡ true → is_set second place ≡ true) }
 {
     first & !second & lawful == 0
@@ -152,10 +174,10 @@ fn block_within(first: u64, second: u64, lawful: u64) -> bool
 pub fn within(first: &Table, second: &Table) -> bool
     ensures rows { IsTrue result ↔ IsWithin first.now second.now }
     ensures labels { (l m : words.StaticLabel) →
-        uses_names_below 9 l ≡ true → uses_names_below 9 m ≡ true →
+        uses_names_below NAMES l ≡ true → uses_names_below NAMES m ≡ true →
         IsTableOf l first.now → IsTableOf m second.now → (IsTrue result ↔ Implies l m) }
 {
-    for block in 0..64 {
+    for block in 0..BLOCKS {
         if !block_within(first[block], second[block], LAWFUL[block / 8]) {
             return false;
         }
@@ -171,6 +193,6 @@ pub fn entails(l: &StaticLabel, m: &StaticLabel, scope: &Scope) -> bool
     requires second { uses_names_below scope.now (static_label_of m.now) ≡ true }
     ensures { IsTrue result ↔ Implies (static_label_of l.now) (static_label_of m.now) }
 {
-    prove!(scope.names() <= 9);
+    prove!(scope.names() <= NAMES);
     within(&table_of(l, scope), &table_of(m, scope))
 }

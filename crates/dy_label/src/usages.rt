@@ -1,5 +1,6 @@
 ghost use Rattle.std.specs.Prelude.{◌≡◌, ◌≢◌, true, false, IfOk};
 
+use crate::word_lists::{copy_words, same_words};
 use dy_term::{Memory, Word};
 use sqlite_items::Items;
 use std::alloc::Global;
@@ -27,7 +28,7 @@ pub struct Usage {
     pub owners: Items<Word>,
 }
 
-/// How an instance of a handler ends: behind its last statement, or at the statement of this
+/// How an instance of a handler ends: after its last statement, or at the statement of this
 /// number.
 #[derive(Clone, Copy, Debug, PartialEq, Eq)]
 pub enum Outcome {
@@ -46,6 +47,7 @@ impl Usage {
             && same_words(self.owners.as_slice(), other.owners.as_slice())
     }
 
+    /// An equal usage, in memory of its own.
     pub fn copy(&self, alloc: Global) -> Result<Usage, Memory>
         ensures { IfOk result (λ usage. usage ≡ self.now) }
     {
@@ -55,32 +57,4 @@ impl Usage {
             owners: copy_words(alloc, self.owners.as_slice())?,
         })
     }
-}
-
-/// Whether the two lists have the same words in the same order.
-fn same_words(words: &[Word], others: &[Word]) -> bool
-    ensures same { result ≡ true → words.now ≡ others.now }
-    ensures other { result ≡ false → words.now ≢ others.now }
-{
-    if words.len() != others.len() {
-        return false;
-    }
-    for i in 0..words.len() {
-        if !words[i].same(&others[i]) {
-            return false;
-        }
-    }
-    true
-}
-
-fn copy_words(alloc: Global, words: &[Word]) -> Result<Items<Word>, Memory>
-    ensures { IfOk result (λ copied. copied ≡ words.now) }
-{
-    let mut copied = Items::new(alloc);
-    for word in words {
-        if copied.push(word.copy()).is_err() {
-            return Err(Memory);
-        }
-    }
-    Ok(copied)
 }

@@ -2,6 +2,9 @@ ghost use Rattle.std.specs.Prelude.{◌≡◌, ◌≤◌, ◌↔◌, IsSome, IfS
 
 use std::marker::Model;
 
+/// The most names that a handler's scope has.
+pub const NAMES: u8 = 9;
+
 /// A word that reads in a handler.
 #[derive(Clone, Copy, Debug)]
 pub enum Atom {
@@ -27,7 +30,7 @@ pub enum StaticLabel {
     Meet(Box<StaticLabel>, Box<StaticLabel>),
 }
 
-/// How many names a handler has, from 1 to 9. Contracts see it as that number.
+/// How many names a handler has, from 1 to `NAMES`. Contracts see it as that number.
 #[derive(Clone, Copy, Debug)]
 pub struct Scope {
     names: u8,
@@ -35,23 +38,24 @@ pub struct Scope {
 
 impl Model for Scope {
     ghost use Rattle.std.specs.Prelude.{ℕ, ◌≤◌};
+    ghost use Rattle.dy_label.specs.declared.words.TheConstants.{NAMES};
 
     ghost Value = { ℕ };
 
     ghost view = { λ s. s.names };
 
-    ghost invariant = { λ s. (1 ≤ s.names) × (s.names ≤ 9) };
+    ghost invariant = { λ s. (1 ≤ s.names) × (s.names ≤ NAMES) };
 
     ghost inverse = { λ names. record { names = names } };
 }
 
 impl Scope {
-    /// A scope of this many names, or `None` where they are not from 1 to 9.
+    /// A scope of this many names, or `None` where they are not from 1 to `NAMES`.
     pub fn new(names: u8) -> Option<Scope>
         ensures names { IfSome result (λ scope. scope ≡ names) }
-        ensures found { IsSome result ↔ ((1 ≤ names) × (names ≤ 9)) }
+        ensures found { IsSome result ↔ ((1 ≤ names) × (names ≤ NAMES)) }
     {
-        if 1 <= names && names <= 9 {
+        if 1 <= names && names <= NAMES {
             Some(Scope { names })
         } else {
             None
@@ -61,7 +65,7 @@ impl Scope {
     /// How many names it has.
     pub fn names(&self) -> u8
         ensures names { result ≡ self.now }
-        ensures range { (1 ≤ result) × (result ≤ 9) }
+        ensures range { (1 ≤ result) × (result ≤ NAMES) }
     {
         self.names
     }

@@ -4,4 +4,4 @@ use Rattle.dy_entry.specs.Meaning.{entries_of}
 use Rattle.dy_entry.proofs.look_ups.newest.Given as goal
 
 abbrev pub invariant-loop-entry : goal.invariant-loop-entry
-invariant-loop-entry l = l.newest ≡ newest (entries_of (take l.entry-index l.entries)) l.p l.s
+invariant-loop-entry l = l.newest ≡ newest (entries_of (take l.entry-index l.entries)) l.principal l.session

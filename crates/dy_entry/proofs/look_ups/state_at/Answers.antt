@@ -5,7 +5,7 @@ use Rattle.dy_entry.proofs.Traces.{position-map}
 use Rattle.dy_entry.proofs.look_ups.state_at.Goals as goal
 
 pub returns-in_err-index : goal.returns-in_err-index
-returns-in_err-index c = c.from_residual.ensures ∙ sym c.in_err-index.was ∙ c.first_version.ensures.first ∙ sym (position-map entry_of (is_version_of c.args.p.now c.args.s c.args.v) c.args.entries.now)
+returns-in_err-index c = c.from_residual.ensures ∙ sym c.in_err-index.was ∙ c.first_version.ensures.first ∙ sym (position-map entry_of (is_version_of c.args.principal.now c.args.session c.args.version) c.args.entries.now)
 
 pub returns : goal.returns
-returns c = sym c.in_ok-index.was ∙ c.first_version.ensures.first ∙ sym (position-map entry_of (is_version_of c.args.p.now c.args.s c.args.v) c.args.entries.now)
+returns c = sym c.in_ok-index.was ∙ c.first_version.ensures.first ∙ sym (position-map entry_of (is_version_of c.args.principal.now c.args.session c.args.version) c.args.entries.now)

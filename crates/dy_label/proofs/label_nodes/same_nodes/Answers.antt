@@ -1,5 +1,5 @@
 use Rattle.std.proofs.Common.{◌<◌, length, arith, refl}
-use Rattle.dy_label.specs.NodesMeaning.{node_of}
+use Rattle.dy_label.specs.MirrorNodes.{node_of}
 use Rattle.dy_label.proofs.Mapped.{same_at, same_more}
 use Rattle.dy_label.proofs.label_nodes.same_nodes.Goals as goal
 

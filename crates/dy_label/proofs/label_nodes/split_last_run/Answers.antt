@@ -1,6 +1,6 @@
 use Rattle.std.proofs.Common.{◌≡◌, ◌+◌, ◌-◌, length, arith}
-use Rattle.dy_label.specs.LabelRuns.{run_of}
-use Rattle.dy_label.specs.NodesMeaning.{node_of}
+use Rattle.dy_label.specs.MirrorRuns.{run_of}
+use Rattle.dy_label.specs.MirrorNodes.{node_of}
 use Rattle.dy_label.proofs.LabelRuns.{run_length_at_end, run_is_within, run_of-not_empty, split_at_run}
 use Rattle.dy_label.proofs.label_nodes.split_last_run.Goals as goal
 

@@ -1,6 +1,6 @@
 use Rattle.std.proofs.Common.{map}
-use Rattle.dy_label.specs.LabelRuns.{run_of}
-use Rattle.dy_label.specs.NodesMeaning.{node_of}
+use Rattle.dy_label.specs.MirrorRuns.{run_of}
+use Rattle.dy_label.specs.MirrorNodes.{node_of}
 use Rattle.dy_label.proofs.LabelRuns.{is_run, run_is}
 use Rattle.dy_label.proofs.labels.two_views.Goals as goal
 

@@ -1,7 +1,7 @@
 use Rattle.std.proofs.Common.{◌^◌, bit_or, sym, ◌∙◌}
 use Rattle.std.proofs.lemmas.Bool.{or_left}
 use Rattle.dy_label.specs.Tables.{is_set, bit_of, opens_in}
-use Rattle.dy_label.proofs.WordsOpen.{open-more}
+use Rattle.dy_label.proofs.LabelsOpen.{open-more}
 use Rattle.dy_label.proofs.RowBits.{is_set-or, with_bit-lt}
 use Rattle.dy_label.proofs.laws_of_words.tables_never_fall.Goals as goal
 

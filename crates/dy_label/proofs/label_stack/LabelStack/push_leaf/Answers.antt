@@ -1,9 +1,9 @@
 use Rattle.std.proofs.Common.{◌≡◌, ◌+◌, ◌++◌, ◌∷◌, [], ◌∙◌, ap, sym, map, length, arith}
 use Rattle.std.proofs.lemmas.List.{map-append, length-map}
-use Rattle.dy_label.specs.LabelRuns.{runs_of, behind}
-use Rattle.dy_label.specs.NodesMeaning.{node_of}
+use Rattle.dy_label.specs.MirrorRuns.{runs_of, labels_after}
+use Rattle.dy_label.specs.MirrorNodes.{node_of}
 use Rattle.dy_label.proofs.LabelRuns.{are_runs, runs_are, length_le_runs}
-use Rattle.dy_label.proofs.LabelStacks.{leaf_behind, length-leaf_behind}
+use Rattle.dy_label.proofs.LabelStacks.{leaf_after, length-leaf_after}
 use Rattle.dy_label.proofs.label_stack.LabelStack.push_leaf.Goals as goal
 
 pub overflow_add-self : goal.overflow_add-self
@@ -17,15 +17,15 @@ overflow_add-self c =
 pub invariant_of-self-2 : goal.invariant_of-self-2
 invariant_of-self-2 c =
     let runs : map node_of c.self.inside.nodes.items ≡ runs_of c.args.self.now = c.self.invariant.runs ∙ ap runs_of c.self.view_is in
-    let more : map node_of c.push.new.nodes.items ≡ map node_of c.self.inside.nodes.items ++ node_of c.args.leaf ∷ [] =
-    ap (map node_of) c.in_ok-push.ensures.ok ∙ map-append node_of c.self.inside.nodes.items (c.args.leaf ∷ []) in
+    let more : map node_of c.push.new.self.items ≡ map node_of c.self.inside.nodes.items ++ node_of c.args.leaf ∷ [] =
+    ap (map node_of) c.in_ok-push.ensures.items ∙ map-append node_of c.self.inside.nodes.items (c.args.leaf ∷ []) in
     let counted : c.self.inside.count ≡ length c.args.self.now = c.self.invariant.counted ∙ ap length c.self.view_is in
-    are_runs _ (behind c.args.self.now (node_of c.args.leaf)) _ (more ∙ leaf_behind _ _ _ runs c.requires)
-    (ap (λ n. n + 1) counted ∙ sym (length-leaf_behind c.args.self.now (node_of c.args.leaf) c.requires))
+    are_runs _ (labels_after c.args.self.now (node_of c.args.leaf)) _ (more ∙ leaf_after _ _ _ runs c.requires)
+    (ap (λ n. n + 1) counted ∙ sym (length-leaf_after c.args.self.now (node_of c.args.leaf) c.requires))
 
 pub returns-clause-ok : goal.returns-clause-ok
 returns-clause-ok c =
     let runs : map node_of c.self.inside.nodes.items ≡ runs_of c.args.self.now = c.self.invariant.runs ∙ ap runs_of c.self.view_is in
-    let more : map node_of c.push.new.nodes.items ≡ map node_of c.self.inside.nodes.items ++ node_of c.args.leaf ∷ [] =
-    ap (map node_of) c.in_ok-push.ensures.ok ∙ map-append node_of c.self.inside.nodes.items (c.args.leaf ∷ []) in
-    runs_are _ (behind c.args.self.now (node_of c.args.leaf)) (more ∙ leaf_behind _ _ _ runs c.requires)
+    let more : map node_of c.push.new.self.items ≡ map node_of c.self.inside.nodes.items ++ node_of c.args.leaf ∷ [] =
+    ap (map node_of) c.in_ok-push.ensures.items ∙ map-append node_of c.self.inside.nodes.items (c.args.leaf ∷ []) in
+    runs_are _ (labels_after c.args.self.now (node_of c.args.leaf)) (more ∙ leaf_after _ _ _ runs c.requires)

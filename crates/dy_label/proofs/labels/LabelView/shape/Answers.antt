@@ -1,7 +1,7 @@
 use Rattle.std.proofs.Common.{◌≡◌, ◌∙◌, ap, sym, map}
-use Rattle.dy_label.specs.LabelRuns.{run_of, label_in, last_node}
-use Rattle.dy_label.specs.LabelRuns as runs
-use Rattle.dy_label.specs.NodesMeaning.{node_of}
+use Rattle.dy_label.specs.MirrorRuns.{run_of, label_in, last_node}
+use Rattle.dy_label.specs.MirrorRuns as runs
+use Rattle.dy_label.specs.MirrorNodes.{node_of}
 use Rattle.dy_label.proofs.LabelParts.{label_of_parts}
 use Rattle.dy_label.proofs.labels.LabelView.shape.Goals as goal
 
