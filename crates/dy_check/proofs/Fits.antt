@@ -2,9 +2,9 @@
 use Rattle.std.proofs.Common.{◌≡◌, ℕ, ◌<◌, ◌≤◌, Option, IfSome, true, ◌&&◌, nat_le, List, length, Some, None, arith}
 use Rattle.std.proofs.lemmas.Bool.{and_parts, leb-true}
 use Rattle.std.specs.List.{list_all}
-use Rattle.dy_syntax.specs.Files.{EventText, Declaration}
-use Rattle.dy_syntax.specs.Limits.{has_few, partner_fits, event_fits, declaration_fits}
-use Rattle.dy_syntax.specs.Rules.{event_named}
+use Rattle.dy_syntax.specs.Small.Files.{EventText, Declaration}
+use Rattle.dy_syntax.specs.Small.Limits.{has_few, partner_fits, event_fits, declaration_fits}
+use Rattle.dy_syntax.specs.Small.Rules.{event_named}
 use Rattle.dy_check.proofs.Named.{event_passes}
 
 -- an event within the limits has at most 8 partners

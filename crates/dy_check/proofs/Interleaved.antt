@@ -5,7 +5,7 @@ use Rattle.std.proofs.lemmas.Bool.Decides.{Decides-eqb}
 use Rattle.std.proofs.lemmas.Option.{slice_get_within}
 use Rattle.std.proofs.lemmas.List.{length-append}
 use Rattle.std.specs.List.{slice_get}
-use Rattle.dy_syntax.specs.Files.{HandlerText, FileText}
+use Rattle.dy_syntax.specs.Small.Files.{HandlerText, FileText}
 use Rattle.dy_check.specs.Small.{Call, Entry, Setup, Start, Message, Event, End, Corrupt, Forge, Inject, Skip, is_put_by, put_by, items, call_of, handler_of, next_item, next_of, MayFollow, Interleaves}
 use Rattle.dy_check.proofs.Indexed.{IsIn, take_next, take_past, in_longer, in_last, in_more}
 

@@ -3,8 +3,8 @@ use Rattle.std.proofs.Common.{◌≡◌, ℕ, zero, suc, Bool, true, List, [], �
 use Rattle.std.proofs.lemmas.Bool.{and_parts, cases_Bool}
 use Rattle.std.specs.List.{list_all, slice_get}
 use Rattle.std.specs.Str.{bytes_eq}
-use Rattle.dy_syntax.specs.Files.{Parameter, EventText, HandlerText, Declaration, DeclaresEvent, DeclaresHandler, handlers_in}
-use Rattle.dy_syntax.specs.Rules.{event_named, is_param}
+use Rattle.dy_syntax.specs.Small.Files.{Parameter, EventText, HandlerText, Declaration, DeclaresEvent, DeclaresHandler, handlers_in}
+use Rattle.dy_syntax.specs.Small.Rules.{event_named, is_param}
 use Rattle.dy_check.specs.Partners.{beside, argument_for}
 use Rattle.dy_check.specs.Small.{handler_named}
 use Rattle.dy_check.proofs.Indexed.{IsIn}

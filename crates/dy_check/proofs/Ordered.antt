@@ -6,8 +6,8 @@ use Rattle.std.specs.Option.{option_map_or}
 use Rattle.std.specs.List.{slice_get, list_all}
 use Rattle.std.specs.Cmp.Lexicographic.{pointwise}
 use Rattle.dy_term.specs.Terms.{Term}
-use Rattle.dy_syntax.specs.Files.{NameValue, TextValue, Atom, Action, Triggers, Sends, Stmt, Parameter, PartnerText, EventText, HandlerText, Declaration, FileText, handlers_in}
-use Rattle.dy_syntax.specs.Rules.{event_named, is_distinct, event_names, handler_names, is_param, is_bound, takes_args, fits_partner, partner_is_right, event_is_right, begins_with_self, action_is_right, handler_is_right, declaration_is_right, is_well_formed}
+use Rattle.dy_syntax.specs.Small.Files.{NameValue, TextValue, Atom, Action, Triggers, Sends, Stmt, Parameter, PartnerText, EventText, HandlerText, Declaration, FileText, handlers_in}
+use Rattle.dy_syntax.specs.Small.Rules.{event_named, is_distinct, event_names, handler_names, is_param, is_bound, takes_args, fits_partner, partner_is_right, event_is_right, begins_with_self, action_is_right, handler_is_right, declaration_is_right, is_well_formed}
 use Rattle.dy_check.specs.Partners.{due_event}
 use Rattle.dy_check.specs.Typing.{IsTyped}
 use Rattle.dy_check.specs.Small.{Call, Entry, Event, End, Finished, bytes_for, item, items, put_by, handler_named, asked_for, KeepsOrder, Interleaves}

@@ -5,8 +5,8 @@ use Rattle.std.proofs.lemmas.Slice.Eq.{bytes_eq-Decides}
 use Rattle.std.specs.List.{list_any, slice_get}
 use Rattle.std.specs.Cmp.Lexicographic.{pointwise}
 use Rattle.dy_term.specs.Terms.{Term}
-use Rattle.dy_syntax.specs.Files.{Name, Me, Named, Atom, Action, Triggers, Sends, Stmt, Parameter, PartnerText, EventText, HandlerText, Declaration, FileText, handlers_in}
-use Rattle.dy_syntax.specs.Rules.{event_named, fits_partner}
+use Rattle.dy_syntax.specs.Small.Files.{Name, Me, Named, Atom, Action, Triggers, Sends, Stmt, Parameter, PartnerText, EventText, HandlerText, Declaration, FileText, handlers_in}
+use Rattle.dy_syntax.specs.Small.Rules.{event_named, fits_partner}
 use Rattle.dy_check.specs.Partners.{put_in, due_event, same_name, same_atom, triggers, lacks, first_lacked, missing, argument_for}
 use Rattle.dy_check.specs.Typing.{AreTyped, IsTyped}
 use Rattle.dy_check.specs.Small.{handler_named, asked_for}

@@ -1,7 +1,7 @@
 -- Statements and handlers that are typed, one more at a time.
 use Rattle.std.proofs.Common.{◌≡◌, ℕ, List, [], ◌∷◌, ◌++◌, Some, None, ◌⊎◌, length, inl, inr, refl, sym, ap, subst, ◌∙◌, arith}
 use Rattle.std.proofs.lemmas.List.{length-append, append-nil}
-use Rattle.dy_syntax.specs.Files.{Stmt, EventText, HandlerText, Declaration, DeclaresEvent, DeclaresHandler, FileText, handlers_in}
+use Rattle.dy_syntax.specs.Small.Files.{Stmt, EventText, HandlerText, Declaration, DeclaresEvent, DeclaresHandler, FileText, handlers_in}
 use Rattle.dy_check.specs.Partners.{missing}
 use Rattle.dy_check.specs.Typing.{AreTyped, HandlersAreTyped, LacksFirst, IsTyped, IsRefused}
 use Rattle.dy_check.proofs.Splits.{two_places}

@@ -5,7 +5,7 @@ use Rattle.std.proofs.lemmas.List.{append_assoc, append-nil}
 use Rattle.std.specs.List.{slice_get}
 use Rattle.dy_term.specs.Terms.{Term, Lit, Hash}
 use Rattle.dy_term.specs.Terms as terms
-use Rattle.dy_syntax.specs.Files.{Me, Named, NameValue, TextValue, Triggers, Sends, Parameter, PartnerText, EventText, HandlerText, DeclaresEvent, DeclaresHandler, FileText}
+use Rattle.dy_syntax.specs.Small.Files.{Me, Named, NameValue, TextValue, Triggers, Sends, Parameter, PartnerText, EventText, HandlerText, DeclaresEvent, DeclaresHandler, FileText}
 use Rattle.dy_check.specs.Small.{Call, Finished, Stopped, Entry, Setup, Start, Message, Event, End, Corrupt, Forge, Inject, Skip, MayFollow, Interleaves}
 use Rattle.dy_check.proofs.Indexed.{in_last, take_whole}
 

@@ -3,8 +3,8 @@ use Rattle.std.specs.Prelude.{ℕ, ◌+◌, Bool, true, false, not, ◌&&◌, Li
 use Rattle.std.specs.List.{list_any}
 use Rattle.std.specs.Str.{bytes_eq}
 use Rattle.std.specs.Cmp.Lexicographic.{pointwise}
-use Rattle.dy_syntax.specs.Files.{Name, Me, Named, Atom, Action, Triggers, Sends, Stmt, Parameter, PartnerText, EventText, Declaration}
-use Rattle.dy_syntax.specs.Rules.{event_named}
+use Rattle.dy_syntax.specs.Small.Files.{Name, Me, Named, Atom, Action, Triggers, Sends, Stmt, Parameter, PartnerText, EventText, Declaration}
+use Rattle.dy_syntax.specs.Small.Rules.{event_named}
 
 -- what stands beside this word in a list of values
 abbrev pub beside : {A : Type 0} → List (List ℕ) → List A → List ℕ → Option A

@@ -5,8 +5,8 @@ use Rattle.std.specs.List.{slice_get, list_any}
 use Rattle.std.specs.Str.{bytes_eq}
 use Rattle.dy_term.specs.Terms.{Term, Lit}
 use Rattle.dy_term.specs.Terms as terms
-use Rattle.dy_syntax.specs.Files.{Name, Me, Named, NameValue, TextValue, Action, Triggers, Sends, Parameter, PartnerText, EventText, HandlerText, Declaration, FileText, handlers_in}
-use Rattle.dy_syntax.specs.Rules.{event_named}
+use Rattle.dy_syntax.specs.Small.Files.{Name, Me, Named, NameValue, TextValue, Action, Triggers, Sends, Parameter, PartnerText, EventText, HandlerText, Declaration, FileText, handlers_in}
+use Rattle.dy_syntax.specs.Small.Rules.{event_named}
 use Rattle.dy_check.specs.Partners.{beside, argument_for}
 
 -- A call of a handler: by whom, with which names, and in which session. No handler receives a message yet.

@@ -1,6 +1,6 @@
 -- When a file is typed, and which place is refused where it is not.
 use Rattle.std.specs.Prelude.{◌≡◌, ℕ, List, ◌∷◌, ◌++◌, Some, None}
-use Rattle.dy_syntax.specs.Files.{Stmt, HandlerText, Declaration, FileText, handlers_in}
+use Rattle.dy_syntax.specs.Small.Files.{Stmt, HandlerText, Declaration, FileText, handlers_in}
 use Rattle.dy_check.specs.Partners.{missing}
 
 -- Each of these statements, which stand at a handler's front, has its partners before it.

@@ -1,11 +1,11 @@
 ghost use Rattle.std.specs.Prelude.{◌≡◌, ◌<◌, ℕ, true, None, map, IfSome};
 ghost use Rattle.std.specs.List.{list_all};
-ghost use Rattle.dy_syntax.specs.Limits.{declaration_fits, file_fits};
-ghost use Rattle.dy_syntax.specs.Meaning.{stmt_of, decl_of, file_of};
+ghost use Rattle.dy_syntax.specs.Small.Limits.{declaration_fits, file_fits};
+ghost use Rattle.dy_syntax.specs.Small.Meaning.{stmt_of, decl_of, file_of};
 ghost use Rattle.dy_check.specs.Typing.{AreTyped, LacksFirst, IsTyped, IsRefused};
 
 use crate::partners::missing;
-use dy_syntax::{Decl, File, Statement};
+use dy_syntax::small::{Decl, File, Statement};
 
 /// Whether a file is accepted, and else the place that is refused.
 #[derive(Clone, Copy, Debug, PartialEq, Eq)]

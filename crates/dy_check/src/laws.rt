@@ -1,6 +1,6 @@
 ghost use Rattle.std.specs.Prelude.{◌≡◌, ℕ, List, true};
-ghost use Rattle.dy_syntax.specs.Files.{FileText};
-ghost use Rattle.dy_syntax.specs.Rules.{is_well_formed};
+ghost use Rattle.dy_syntax.specs.Small.Files.{FileText};
+ghost use Rattle.dy_syntax.specs.Small.Rules.{is_well_formed};
 ghost use Rattle.dy_check.specs.Small.{Entry, Interleaves, KeepsOrder};
 ghost use Rattle.dy_check.specs.Typing.{IsTyped, IsRefused};
 

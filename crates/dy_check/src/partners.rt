@@ -2,11 +2,11 @@ ghost use Rattle.std.specs.Prelude.{true, IfSome, ◌≡◌, map, length, ◌+�
 ghost use Rattle.std.specs.Option.{option_map};
 ghost use Rattle.std.specs.List.{list_all};
 ghost use Rattle.std.specs.Cmp.Lexicographic.{pointwise};
-ghost use Rattle.dy_syntax.specs.Limits.{declaration_fits};
-ghost use Rattle.dy_syntax.specs.Meaning.{name_of, atom_of, action_of, stmt_of, param_of, partner_of, decl_of};
+ghost use Rattle.dy_syntax.specs.Small.Limits.{declaration_fits};
+ghost use Rattle.dy_syntax.specs.Small.Meaning.{name_of, atom_of, action_of, stmt_of, param_of, partner_of, decl_of};
 ghost use Rattle.dy_check.specs.Partners as partners;
 
-use dy_syntax::{Act, AtomText, Decl, Nm, Param, Partner, Statement, event_named};
+use dy_syntax::small::{Act, AtomText, Decl, Nm, Param, Partner, Statement, event_named};
 use dy_term::Word;
 
 /// The argument at the place of this parameter.

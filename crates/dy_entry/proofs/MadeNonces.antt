@@ -1,8 +1,6 @@
 -- Nonces that a trace makes, in a longer trace.
-use Rattle.std.proofs.Common.{◌≡◌, ℕ, List, ◌++◌, Some, refl, ap, sym, ◌∙◌}
-use Rattle.std.specs.List.{slice_get}
+use Rattle.std.proofs.Common.{◌≡◌, ℕ, List, ◌++◌, refl, ap, sym, ◌∙◌}
 use Rattle.dy_term.specs.Terms.{Term, Lit, Name, Nonce, Pair, Pk, Vk, Penc, Aead, Sign, Mac, Kdf, Hash}
-use Rattle.dy_label.specs.Labels.{Meet}
 use Rattle.dy_entry.specs.Entries.{Entry}
 use Rattle.dy_entry.specs.ValueLabels.{IsMade, HasMadeNonces, label_of_nonce, label_of}
 use Rattle.dy_entry.proofs.Traces.{slice_get-prefix}

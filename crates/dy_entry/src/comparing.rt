@@ -4,6 +4,7 @@ ghost use Rattle.dy_entry.specs.Meaning.{entry_of};
 use crate::entries::Entry;
 use dy_flat::FlatTerm;
 use dy_label::same_words;
+use dy_term::sameness_is_equality;
 
 impl Entry {
     /// Whether the two are the same entry.
@@ -93,6 +94,7 @@ fn same_term(first: &FlatTerm, second: &FlatTerm) -> bool
     ensures same { result ≡ true → first.now ≡ second.now }
     ensures other { result ≡ false → first.now ≢ second.now }
 {
+    sameness_is_equality();
     dy_flat::same(first.whole(), second.whole())
 }
 

@@ -59,10 +59,7 @@ impl Entry {
 fn copy_bytes(alloc: Global, bytes: &[u8]) -> Result<Items<u8>, Memory>
     ensures { IfOk result (λ copied. copied ≡ bytes.now) }
 {
-    match Items::from_slice(alloc, bytes) {
-        Ok(copied) => Ok(copied),
-        Err(_) => Err(Memory),
-    }
+    Ok(Items::from_slice(alloc, bytes)?)
 }
 
 fn copy_terms(alloc: Global, terms: &[FlatTerm]) -> Result<Items<FlatTerm>, Memory>
@@ -70,9 +67,7 @@ fn copy_terms(alloc: Global, terms: &[FlatTerm]) -> Result<Items<FlatTerm>, Memo
 {
     let mut copied = Items::new(alloc);
     for term in terms {
-        if copied.push(term.copy(alloc)?).is_err() {
-            return Err(Memory);
-        }
+        copied.push(term.copy(alloc)?)?;
     }
     Ok(copied)
 }

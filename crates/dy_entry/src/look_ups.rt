@@ -20,9 +20,7 @@ pub fn corruptions(alloc: Global, entries: &[Entry]) -> Result<Vec<Corruption>, 
     let mut found = Vec::new(alloc);
     for entry in entries {
         if let Entry::Corrupt(_, corruption) = entry {
-            if found.push(corruption.copy()).is_err() {
-                return Err(Memory);
-            }
+            found.push(corruption.copy())?;
         }
     }
     Ok(found)

@@ -1,4 +1,5 @@
 -- What readers, corruptions and nodes of the code stand for.
+use Rattle.std.specs.Prelude.{List, map}
 use Rattle.dy_label.specs.declared.readers.Reader.{Reader}
 use Rattle.dy_label.specs.declared.readers.Reader.TheVariants as readers
 use Rattle.dy_label.specs.declared.readers.Corruption.{Corruption}
@@ -14,3 +15,6 @@ abbrev pub place_of_corruption : Corruption → Place
 place_of_corruption (corruptions.Principal principal) = Principal principal
 place_of_corruption (corruptions.Session principal session) = Session principal session
 place_of_corruption (corruptions.Version principal session version) = Version principal session version
+
+abbrev pub places_of : List Corruption → List Place
+places_of corruptions = map place_of_corruption corruptions

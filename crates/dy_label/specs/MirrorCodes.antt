@@ -18,7 +18,8 @@ numbers_of (Meet nodes) = (6, (nodes, (0, [])))
 
 abbrev node_of : ℕ × (ℕ × (ℕ × List ℕ)) → Node
 node_of n =
-    cond (n.0 == 0) Public (cond (n.0 == 1) Nobody (cond (n.0 == 2) (One (Principal n.1.1.1)) (cond (n.0 == 3) (One (Session n.1.1.1 n.1.0))
+    cond (n.0 == 0) Public (cond (n.0 == 1) Nobody
+    (cond (n.0 == 2) (One (Principal n.1.1.1)) (cond (n.0 == 3) (One (Session n.1.1.1 n.1.0))
     (cond (n.0 == 4) (One (Version n.1.1.1 n.1.0 n.1.1.0)) (cond (n.0 == 5) (Join n.1.0) (Meet n.1.0))))))
 
 pub node_of-numbers_of : (node : Node) → node_of (numbers_of node) ≡ node
@@ -31,21 +32,28 @@ node_of-numbers_of (Join nodes) = refl
 node_of-numbers_of (Meet nodes) = refl
 
 abbrev pub nodes_code : Coded (List Node)
-nodes_code = coded_list (code_by (ℕ × (ℕ × (ℕ × List ℕ))) (coded× coded_ℕ (coded× coded_ℕ (coded× coded_ℕ (coded_list coded_ℕ)))) numbers_of node_of node_of-numbers_of)
+nodes_code =
+    coded_list (code_by (ℕ × (ℕ × (ℕ × List ℕ)))
+    (coded× coded_ℕ (coded× coded_ℕ (coded× coded_ℕ (coded_list coded_ℕ)))) numbers_of node_of node_of-numbers_of)
 
 -- a run stands for its label, and what follows is read after it
-pub labels_from-run_of : (before : List labels.Label) (label : labels.Label) (nodes : List Node) → labels_from before (run_of label ++ nodes) ≡ labels_from (label ∷ before) nodes
+pub labels_from-run_of : (before : List labels.Label) (label : labels.Label) (nodes : List Node)
+    → labels_from before (run_of label ++ nodes) ≡ labels_from (label ∷ before) nodes
 labels_from-run_of before labels.Public nodes = refl
 labels_from-run_of before labels.Nobody nodes = refl
 labels_from-run_of before (labels.One reader) nodes = refl
 labels_from-run_of before (labels.Join first second) nodes =
     let whole = Join (length (run_of first ++ run_of second) + 1) in
-    ap (labels_from before) (append_assoc (run_of first ++ run_of second) (whole ∷ []) nodes ∙ append_assoc (run_of first) (run_of second) (whole ∷ nodes))
+    ap (labels_from before)
+    (append_assoc (run_of first ++ run_of second) (whole ∷ []) nodes
+    ∙ append_assoc (run_of first) (run_of second) (whole ∷ nodes))
     ∙ labels_from-run_of before first (run_of second ++ whole ∷ nodes)
     ∙ labels_from-run_of (first ∷ before) second (whole ∷ nodes)
 labels_from-run_of before (labels.Meet first second) nodes =
     let whole = Meet (length (run_of first ++ run_of second) + 1) in
-    ap (labels_from before) (append_assoc (run_of first ++ run_of second) (whole ∷ []) nodes ∙ append_assoc (run_of first) (run_of second) (whole ∷ nodes))
+    ap (labels_from before)
+    (append_assoc (run_of first ++ run_of second) (whole ∷ []) nodes
+    ∙ append_assoc (run_of first) (run_of second) (whole ∷ nodes))
     ∙ labels_from-run_of before first (run_of second ++ whole ∷ nodes)
     ∙ labels_from-run_of (first ∷ before) second (whole ∷ nodes)
 

@@ -15,8 +15,10 @@ abbrev pub run_of : labels.Label → List Node
 run_of labels.Public = Public ∷ []
 run_of labels.Nobody = Nobody ∷ []
 run_of (labels.One reader) = One reader ∷ []
-run_of (labels.Join first second) = (run_of first ++ run_of second) ++ Join (length (run_of first ++ run_of second) + 1) ∷ []
-run_of (labels.Meet first second) = (run_of first ++ run_of second) ++ Meet (length (run_of first ++ run_of second) + 1) ∷ []
+run_of (labels.Join first second) =
+    (run_of first ++ run_of second) ++ Join (length (run_of first ++ run_of second) + 1) ∷ []
+run_of (labels.Meet first second) =
+    (run_of first ++ run_of second) ++ Meet (length (run_of first ++ run_of second) + 1) ∷ []
 
 -- the runs of some labels, the last label first, one run after the other
 abbrev pub runs_of : List labels.Label → List Node
@@ -75,7 +77,8 @@ EndsWithRun nodes = (before : List Node) × (label : labels.Label) × (nodes ≡
 
 -- The second nodes are the run that the nodes end with, and the first ones stand before it.
 abbrev pub SplitsLastRun : List Node → List Node → List Node → Type 0
-SplitsLastRun nodes first last = (before : List Node) (label : labels.Label) → nodes ≡ before ++ run_of label → (first ≡ before) × (last ≡ run_of label)
+SplitsLastRun nodes first last = (before : List Node) (label : labels.Label)
+    → nodes ≡ before ++ run_of label → (first ≡ before) × (last ≡ run_of label)
 
 -- The nodes are the runs of two labels.
 abbrev pub AreTwoRuns : List Node → Type 0
@@ -83,11 +86,13 @@ AreTwoRuns nodes = (first : labels.Label) × (second : labels.Label) × (nodes �
 
 -- Some nodes, and then the runs of two labels.
 abbrev pub EndsWithTwoRuns : List Node → Type 0
-EndsWithTwoRuns nodes = (before : List Node) × (first : labels.Label) × (second : labels.Label) × (nodes ≡ (before ++ run_of first) ++ run_of second)
+EndsWithTwoRuns nodes = (before : List Node) × (first : labels.Label) × (second : labels.Label)
+    × (nodes ≡ (before ++ run_of first) ++ run_of second)
 
 -- The number is that of the nodes of the last two runs, and one more.
 abbrev pub CountsTwoRuns : List Node → ℕ → Type 0
-CountsTwoRuns nodes number = (before : List Node) (first second : labels.Label) → nodes ≡ (before ++ run_of first) ++ run_of second → number ≡ length (run_of first ++ run_of second) + 1
+CountsTwoRuns nodes number = (before : List Node) (first second : labels.Label)
+    → nodes ≡ (before ++ run_of first) ++ run_of second → number ≡ length (run_of first ++ run_of second) + 1
 
 -- the last node of a label's run
 abbrev pub last_node : labels.Label → Node

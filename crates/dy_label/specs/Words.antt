@@ -1,7 +1,8 @@
 -- Labels over the words of a handler, what they stand for, and when one implies another.
 use Rattle.std.specs.Prelude.{◌≡◌, ℕ, ◌<◌, Bool, true, false, nat_lt, ◌&&◌, List, Some}
 use Rattle.std.specs.List.{list_all}
-use Rattle.dy_label.specs.Labels.{Place, Principal, Session, Version, LabelOf, Public, Nobody, One, Join, Meet, Label, with_readers, is_open_to, is_open}
+use Rattle.dy_label.specs.Labels.{Place, Principal, Session, Version, is_open_to}
+use Rattle.dy_label.specs.Labels.{LabelOf, Public, Nobody, One, Join, Meet, Label, with_readers, is_open}
 
 -- A word that reads in a handler. Name 0 is the handler's own principal, `self`.
 pub data Atom : Type 0 where

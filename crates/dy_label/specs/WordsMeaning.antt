@@ -1,4 +1,4 @@
--- What a label over a handler's words stands for, as the code has it. A pointer stands before each part, and means nothing.
+-- What a label over a handler's words in the code stands for. A pointer stands before each part, and means nothing.
 use Rattle.dy_label.specs.declared.words.Atom.{Atom}
 use Rattle.dy_label.specs.declared.words.Atom.TheVariants as code_word
 use Rattle.dy_label.specs.declared.words.StaticLabel.{StaticLabel}

@@ -1,6 +1,7 @@
 ghost use Rattle.std.specs.Prelude.{◌≡◌, ℕ, Option, List, ◌++◌, Contains, Bool, true};
 ghost use Rattle.std.specs.Option.{option_map};
-ghost use Rattle.dy_label.specs.Labels.{Place, Version, Label, LabelOf, is_covered_by, is_open_to, is_open_where, is_open, one_or_nobody, with_readers};
+ghost use Rattle.dy_label.specs.Labels.{Place, Version, is_covered_by, is_open_to};
+ghost use Rattle.dy_label.specs.Labels.{Label, LabelOf, is_open_where, is_open, one_or_nobody, with_readers};
 ghost use Rattle.dy_label.specs.Words.{Atom, Choice, place_of, meaning_of};
 
 /// More corruptions close no label: where each of some corruptions stands among others, a label

@@ -1,9 +1,8 @@
-ghost use Rattle.std.specs.Prelude.{◌≡◌, ◌≢◌, ◌++◌, [], ◌∷◌, true, false, map, OnErr, OnOk};
+ghost use Rattle.std.specs.Prelude.{◌≡◌, ◌≢◌, ◌++◌, [], ◌∷◌, true, false, map};
 ghost use Rattle.dy_label.specs.MirrorRuns.{run_length, EndsWithRun, EndsWithTwoRuns, SplitsLastRun, CountsTwoRuns};
 ghost use Rattle.dy_label.specs.MirrorNodes.{node_of, whole_node};
 
 use crate::readers::Reader;
-use dy_term::Memory;
 
 /// A node of a label. One with two parts has the number of nodes of its whole run, itself
 /// counted.
@@ -85,29 +84,6 @@ pub(crate) fn same_nodes(first: &[Node], second: &[Node]) -> bool
         }
     }
     true
-}
-
-/// Adds a node, or leaves the nodes as they were out of memory.
-pub(crate) fn push(nodes: &mut Vec<Node>, node: Node) -> Result<(), Memory>
-    ensures ok { OnOk result (nodes.new.items ≡ nodes.old.items ++ node ∷ []) }
-    ensures err { OnErr result (nodes.new.items ≡ nodes.old.items) }
-{
-    match nodes.push(node) {
-        Ok(()) => Ok(()),
-        Err(_) => Err(Memory),
-    }
-}
-
-/// Moves nodes to the end, or refuses out of memory.
-pub(crate) fn append(nodes: &mut Vec<Node>, more: Vec<Node>) -> Result<(), Memory>
-    ensures ok { OnOk result (nodes.new.items ≡ nodes.old.items ++ more.items) }
-    ensures err { OnErr result (nodes.new.items ≡ nodes.old.items) }
-{
-    let mut more = more;
-    match nodes.append(&mut more) {
-        Ok(()) => Ok(()),
-        Err(_) => Err(Memory),
-    }
 }
 
 /// The nodes before the last run, and the last run.

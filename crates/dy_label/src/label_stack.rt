@@ -4,7 +4,7 @@ ghost use Rattle.dy_label.specs.MirrorRuns.{labels_after, is_leaf};
 ghost use Rattle.dy_label.specs.LabelsMeaning.{place_of_reader};
 ghost use Rattle.dy_label.specs.MirrorNodes.{node_of, whole_of};
 
-use crate::label_nodes::{Node, Whole, length_of_two, push};
+use crate::label_nodes::{Node, Whole, length_of_two};
 use crate::labels::Label;
 use crate::readers::Reader;
 use dy_term::Memory;
@@ -89,7 +89,7 @@ impl LabelStack {
         ensures ok { OnOk result (self.new ≡ labels_after self.old (node_of leaf)) }
         ensures err { OnErr result (self.new ≡ self.old) }
     {
-        push(&mut self.nodes, leaf)?;
+        self.nodes.push(leaf)?;
         self.count += 1;
         Ok(())
     }
@@ -118,7 +118,7 @@ impl LabelStack {
         ensures err { OnErr result (self.new ≡ self.old) }
     {
         let length = length_of_two(&self.nodes);
-        push(&mut self.nodes, whole.node(length))?;
+        self.nodes.push(whole.node(length))?;
         self.count -= 1;
         Ok(())
     }

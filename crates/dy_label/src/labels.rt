@@ -1,11 +1,11 @@
 ghost use Rattle.std.specs.Prelude.{◌≡◌, ◌≢◌, ◌≤◌, ◌⊎◌, ◌++◌, true, false, map, length, IfOk};
 ghost use Rattle.dy_label.specs.Labels as labels;
 ghost use Rattle.dy_label.specs.MirrorRuns.{run_of, last_node, nodes_of_parts, IsRun, AreTwoRuns, label_in};
-ghost use Rattle.dy_label.specs.LabelsMeaning.{place_of_reader, place_of_corruption};
+ghost use Rattle.dy_label.specs.LabelsMeaning.{place_of_reader, places_of};
 ghost use Rattle.dy_label.specs.MirrorNodes.{node_of, whole_of};
 ghost use Rattle.dy_label.specs.ShapesMeaning.{label_of_shape};
 
-use crate::label_nodes::{Node, Whole, append, push, same_nodes, split_last_run};
+use crate::label_nodes::{Node, Whole, same_nodes, split_last_run};
 use crate::readers::{Corruption, Reader, is_open_to};
 use dy_term::Memory;
 use std::alloc::Global;
@@ -74,7 +74,7 @@ impl Label {
         ensures { IfOk result (λ label. label ≡ labels.Public) }
     {
         let mut nodes = Vec::new(alloc);
-        push(&mut nodes, Node::Public)?;
+        nodes.push(Node::Public)?;
         Ok(Label { nodes })
     }
 
@@ -83,7 +83,7 @@ impl Label {
         ensures { IfOk result (λ label. label ≡ labels.Nobody) }
     {
         let mut nodes = Vec::new(alloc);
-        push(&mut nodes, Node::Nobody)?;
+        nodes.push(Node::Nobody)?;
         Ok(Label { nodes })
     }
 
@@ -92,7 +92,7 @@ impl Label {
         ensures { IfOk result (λ label. label ≡ labels.One (place_of_reader reader)) }
     {
         let mut nodes = Vec::new(alloc);
-        push(&mut nodes, Node::One(reader))?;
+        nodes.push(Node::One(reader))?;
         Ok(Label { nodes })
     }
 
@@ -144,7 +144,7 @@ fn label_of_two(whole: Whole, first: Label, second: Label) -> Result<Label, Memo
 {
     let mut nodes = parts(first, second)?;
     let length = nodes.len() + 1;
-    push(&mut nodes, whole.node(length))?;
+    nodes.push(whole.node(length))?;
     Ok(Label { nodes })
 }
 
@@ -153,8 +153,8 @@ fn parts(first: Label, second: Label) -> Result<Vec<Node>, Memory>
     ensures { IfOk result (λ nodes. map node_of nodes.items ≡ run_of first ++ run_of second) }
 {
     let Label { mut nodes } = first;
-    let Label { nodes: more } = second;
-    append(&mut nodes, more)?;
+    let Label { nodes: mut more } = second;
+    nodes.append(&mut more)?;
     Ok(nodes)
 }
 
@@ -163,7 +163,7 @@ fn copy_nodes(alloc: Global, nodes: &[Node]) -> Result<Vec<Node>, Memory>
 {
     let mut copied = Vec::new(alloc);
     for node in nodes {
-        push(&mut copied, node.copy())?;
+        copied.push(node.copy())?;
     }
     Ok(copied)
 }
@@ -214,13 +214,13 @@ impl<'a> LabelView<'a> {
 /// loop that goes on with its larger part and asks the smaller one by a call, so calls stand in
 /// calls at most as often as the number of nodes can be halved.
 pub fn is_open(label: &Label, corruptions: &[Corruption]) -> bool
-    ensures { result ≡ labels.is_open (map place_of_corruption corruptions.now) label.now }
+    ensures { result ≡ labels.is_open (places_of corruptions.now) label.now }
 {
     is_view_open(label.whole(), corruptions)
 }
 
 fn is_view_open(label: LabelView<'_>, corruptions: &[Corruption]) -> bool
-    ensures { result ≡ labels.is_open (map place_of_corruption corruptions.now) label.entry }
+    ensures { result ≡ labels.is_open (places_of corruptions.now) label.entry }
 {
     let mut rest = label;
     loop {

@@ -1,7 +1,8 @@
 ghost use Rattle.std.specs.Prelude.{◌≡◌, ℕ, ◌<◌, ◌^◌, ◌↔◌, Bool, true, List, bit_or};
 ghost use Rattle.std.specs.List.{list_all};
 ghost use Rattle.dy_label.specs.Labels.{Place, is_open_where, is_open};
-ghost use Rattle.dy_label.specs.Words.{StaticLabel, Choice, meaning_of, is_word_open, uses_names_below, KeepsApart, is_version, Implies, ImpliesByVersions};
+ghost use Rattle.dy_label.specs.Words.{StaticLabel, Choice, meaning_of, is_word_open};
+ghost use Rattle.dy_label.specs.Words.{uses_names_below, KeepsApart, is_version, Implies, ImpliesByVersions};
 ghost use Rattle.dy_label.specs.Tables.{is_set, opens_in, is_lawful, value_at, IsRowOf, ImpliesInRows, IsTableOf};
 
 use crate::tables::{ROW_BITS, ROWS};

@@ -1,6 +1,6 @@
 ghost use Rattle.std.specs.Prelude.{◌≡◌, ◌≢◌, true, false};
 ghost use Rattle.std.specs.List.{list_any};
-ghost use Rattle.dy_label.specs.Labels.{Version, covers, opens, is_open_to};
+ghost use Rattle.dy_label.specs.Labels.{Version, covers, opens};
 ghost use Rattle.dy_label.specs.LabelsMeaning.{place_of_reader, place_of_corruption};
 
 use dy_term::Word;
@@ -107,7 +107,8 @@ fn opens(reader: &Reader, corruption: &Corruption) -> bool
 
 /// Whether some of the corruptions opens the reader.
 pub(crate) fn is_open_to(corruptions: &[Corruption], reader: &Reader) -> bool
-    ensures { result ≡ list_any (λ corruption. opens (place_of_reader reader.now) (place_of_corruption corruption)) corruptions.now }
+    ensures { result ≡
+        list_any (λ corruption. opens (place_of_reader reader.now) (place_of_corruption corruption)) corruptions.now }
 {
     corruptions
         .iter()

@@ -26,9 +26,7 @@ pub fn copy_words(alloc: Global, words: &[Word]) -> Result<Items<Word>, Memory>
 {
     let mut copied = Items::new(alloc);
     for word in words {
-        if copied.push(word.copy()).is_err() {
-            return Err(Memory);
-        }
+        copied.push(word.copy())?;
     }
     Ok(copied)
 }

@@ -1,7 +1,1 @@
-pub mod Loop
-pub mod Readers
-pub mod TokenLaws
-pub mod ListLaws
-pub mod StatementLaws
-pub mod DeclarationLaws
-pub mod FileLaws
+pub mod SmallLaws

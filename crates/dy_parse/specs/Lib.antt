@@ -1,5 +1,1 @@
-pub mod Words
-pub mod Forms
-pub mod Grammar
-pub mod Reading
-pub mod Files
+pub mod Small

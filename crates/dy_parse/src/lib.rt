@@ -1,21 +1,4 @@
 //! Reads protocol files: tokens, and the grammar over them.
-//!
-//! Of the language there is what files need whose handlers trigger events and send literals and
-//! names.
 #![tactic(auto)]
 
-mod cursor;
-mod declarations;
-mod errors;
-mod laws;
-mod lists;
-mod parsing;
-mod statements;
-mod words;
-
-pub use errors::ParseError;
-pub use laws::one_file;
-pub use parsing::parse;
-
-#[cfg(test)]
-mod tests;
+pub mod small;

@@ -1,4 +1,10 @@
+pub mod Small
+pub mod Names
+pub mod Labels
+pub mod Declarations
+pub mod Expressions
+pub mod Statements
+pub mod Recipes
+pub mod Plans
 pub mod Files
 pub mod Meaning
-pub mod Limits
-pub mod Rules

@@ -1,9 +1,9 @@
 -- What is due, case by case.
 use Rattle.std.proofs.Common.{◌≡◌, ℕ, ◌≤◌, List, length, true, false, ap, ◌∙◌}
 use Rattle.dy_lex.specs.declared.limits.TheConstants.{MAX_SOURCE_BYTES}
-use Rattle.dy_syntax.specs.Files.{FileText}
-use Rattle.dy_syntax.specs.Rules.{is_well_formed}
-use Rattle.dy_parse.specs.Files.{Reads}
+use Rattle.dy_syntax.specs.Small.Files.{FileText}
+use Rattle.dy_syntax.specs.Small.Rules.{is_well_formed}
+use Rattle.dy_parse.specs.Small.Files.{Reads}
 use Rattle.dy_check.specs.Typing.{IsRefused}
 use Rattle.dy_tool.specs.declared.statuses.Status.{Status}
 use Rattle.dy_tool.specs.declared.statuses.Status.TheVariants.{NotAccepted, Input}

@@ -1,7 +1,7 @@
 -- For one input one status and one text are due.
 use Rattle.std.proofs.Common.{◌≡◌, ◌≢◌, ℕ, List, length, subst, sym, refl, ap, ◌∙◌, ◌⊎◌, inl, inr, arith}
-use Rattle.dy_syntax.specs.Files.{FileText, handlers_in}
-use Rattle.dy_parse.specs.Files.{Reads}
+use Rattle.dy_syntax.specs.Small.Files.{FileText, handlers_in}
+use Rattle.dy_parse.specs.Small.Files.{Reads}
 use Rattle.dy_check.specs.Typing.{IsTyped, IsRefused}
 use Rattle.dy_tool.specs.declared.statuses.Status.{Status}
 use Rattle.dy_tool.specs.declared.statuses.Status.TheVariants.{Done, NotAccepted, Words, Input, ReadFault, WriteFault, Memory, TooLong}

@@ -2,9 +2,9 @@
 use Rattle.std.specs.Prelude.{◌≡◌, ◌≢◌, ℕ, ◌<◌, ◌≤◌, true, List, [], ◌∷◌, length, map, codes, String, string_bytes}
 use Rattle.std.specs.declared.alloc.Global.{Global}
 use Rattle.dy_lex.specs.declared.limits.TheConstants.{MAX_SOURCE_BYTES}
-use Rattle.dy_syntax.specs.Files.{FileText, handlers_in}
-use Rattle.dy_syntax.specs.Rules.{is_well_formed}
-use Rattle.dy_parse.specs.Files.{Reads}
+use Rattle.dy_syntax.specs.Small.Files.{FileText, handlers_in}
+use Rattle.dy_syntax.specs.Small.Rules.{is_well_formed}
+use Rattle.dy_parse.specs.Small.Files.{Reads}
 use Rattle.dy_check.specs.Small.{Entry, Interleaves, KeepsOrder}
 use Rattle.dy_check.specs.Typing.{IsTyped, IsRefused}
 use Rattle.dy_tool.specs.declared.statuses.Status.{Status}

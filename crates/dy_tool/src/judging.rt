@@ -1,14 +1,14 @@
 ghost use Rattle.std.specs.Prelude.{◌≡◌, ◌≤◌, length, map, IfOk, string_bytes};
-ghost use Rattle.dy_syntax.specs.Files.{handlers_in};
-ghost use Rattle.dy_syntax.specs.Meaning.{decl_of};
+ghost use Rattle.dy_syntax.specs.Small.Files.{handlers_in};
+ghost use Rattle.dy_syntax.specs.Small.Meaning.{decl_of};
 ghost use Rattle.dy_tool.specs.Due.{IsDueByCheck};
 ghost use Rattle.dy_tool.specs.Texts as texts;
 
 use crate::statuses::Status;
 use dy_check::{Verdict, check};
 use dy_lex::MAX_SOURCE_BYTES;
-use dy_parse::{ParseError, parse};
-use dy_syntax::{Decl, File, is_well_formed};
+use dy_parse::small::{ParseError, parse};
+use dy_syntax::small::{Decl, File, is_well_formed};
 use dy_term::Memory;
 use std::alloc::{AllocError, Global};
 

@@ -3,7 +3,7 @@ ghost use Rattle.dy_tool.specs.Due.{IsDue, IsDueByCheck, OrderIsKept};
 ghost use Rattle.dy_tool.specs.declared.statuses.Status.{Status};
 
 use dy_check::{one_verdict, typed_keeps_order};
-use dy_parse::one_file;
+use dy_parse::small::one_file;
 
 /// For words and input bytes one status and one text are due, and no others.
 pub fn one_answer()

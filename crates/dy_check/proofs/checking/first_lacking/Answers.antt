@@ -1,5 +1,5 @@
 use Rattle.std.proofs.Common.{map, take, drop, ◌+◌, refl, sym}
-use Rattle.dy_syntax.specs.Meaning.{decl_of, stmt_of}
+use Rattle.dy_syntax.specs.Small.Meaning.{decl_of, stmt_of}
 use Rattle.dy_check.proofs.Splits.{map-place, map-take_more}
 use Rattle.dy_check.proofs.Typed.{no_statement, one_more}
 use Rattle.dy_check.proofs.checking.first_lacking.Goals as goal

@@ -1,5 +1,5 @@
 use Rattle.std.proofs.Common.{map, take}
-use Rattle.dy_syntax.specs.Meaning.{decl_of, stmt_of}
+use Rattle.dy_syntax.specs.Small.Meaning.{decl_of, stmt_of}
 use Rattle.dy_check.specs.Typing.{AreTyped}
 use Rattle.dy_check.proofs.checking.first_lacking.Given as goal
 

@@ -1,5 +1,5 @@
 use Rattle.std.proofs.Common.{map, take, drop, ◌+◌, ◌++◌, ◌∷◌, ap, ◌∙◌}
-use Rattle.dy_syntax.specs.Meaning.{decl_of, event_of, handler_of}
+use Rattle.dy_syntax.specs.Small.Meaning.{decl_of, event_of, handler_of}
 use Rattle.dy_check.proofs.Splits.{map-place, map-take_more}
 use Rattle.dy_check.proofs.Typed.{no_handler, event_more, handler_decl_more, refused_at}
 use Rattle.dy_check.proofs.checking.first_refused.Goals as goal

@@ -1,6 +1,6 @@
 use Rattle.std.proofs.Common.{map, take}
-use Rattle.dy_syntax.specs.Files.{handlers_in}
-use Rattle.dy_syntax.specs.Meaning.{decl_of}
+use Rattle.dy_syntax.specs.Small.Files.{handlers_in}
+use Rattle.dy_syntax.specs.Small.Meaning.{decl_of}
 use Rattle.dy_check.specs.Typing.{HandlersAreTyped}
 use Rattle.dy_check.proofs.checking.first_refused.Given as goal
 

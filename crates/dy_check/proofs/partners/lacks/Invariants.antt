@@ -1,5 +1,5 @@
 use Rattle.std.proofs.Common.{◌≡◌, map, drop}
-use Rattle.dy_syntax.specs.Meaning.{name_of, param_of, stmt_of, partner_of}
+use Rattle.dy_syntax.specs.Small.Meaning.{name_of, param_of, stmt_of, partner_of}
 use Rattle.dy_check.specs.Partners.{lacks}
 use Rattle.dy_check.proofs.partners.lacks.Given as goal
 

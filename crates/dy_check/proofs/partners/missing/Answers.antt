@@ -1,6 +1,6 @@
 use Rattle.std.proofs.Common.{◌≤◌, map, length, sym, arith}
 use Rattle.std.proofs.lemmas.List.{length-map}
-use Rattle.dy_syntax.specs.Meaning.{event_of, partner_of, decl_of}
+use Rattle.dy_syntax.specs.Small.Meaning.{event_of, partner_of, decl_of}
 use Rattle.dy_check.proofs.Fits.{named_has_few, few_of}
 use Rattle.dy_check.proofs.partners.missing.Goals as goal
 

@@ -4,16 +4,16 @@ use Rattle.std.proofs.lemmas.List.Elements.{filter_map-append}
 use Rattle.std.proofs.lemmas.Grind.{common_steps}
 use Rattle.dy_label.specs.LabelsMeaning.{place_of_corruption}
 use Rattle.dy_entry.proofs.Traces.{one_more, takes_nothing}
-use Rattle.dy_entry.proofs.look_ups.corruptions.Goals.{in-Corrupt+else-is_err, in_default}
+use Rattle.dy_entry.proofs.look_ups.corruptions.Goals.{in-Corrupt+in_ok-push, in_default}
 use Rattle.dy_entry.proofs.look_ups.corruptions.Goals as goal
 
 pub loop-entry-preserved : goal.loop-entry-preserved
 loop-entry-preserved c =
     let more = one_more c.args.entries.now c.loop-entry.entry-index c.entry-item.result c.loop-entry-test.true c.entry-item.is in
     rw more (rw filter_map-append (elim c.match-entry.branch [
-      | in-Corrupt+else-is_err w ↦
+      | in-Corrupt+in_ok-push w ↦
           let pushed : c.match-entry.found.items ≡ c.loop-entry.found.items ++ w.in-Corrupt.corruption ∷ [] =
-          grind (arith, common_steps, w.push.ensures, w.copy.ensures, w.found-is, w.if-is_err.ensures) in
+          grind (arith, common_steps, w.in_ok-push.ensures, w.copy.ensures, w.found-is) in
           rw (pushed, w.in-Corrupt.is) (map-append place_of_corruption c.loop-entry.found.items (w.in-Corrupt.corruption ∷ [])
           ∙ ap (λ before. before ++ place_of_corruption w.in-Corrupt.corruption ∷ []) c.loop-entry.invariant)
       | in_default w ↦

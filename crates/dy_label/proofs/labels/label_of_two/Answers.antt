@@ -19,9 +19,9 @@ run_of_two whole first second parts node n run counted end =
 pub invariant_of-result : goal.invariant_of-result
 invariant_of-result c =
     is_run _ (whole_of c.args.whole c.args.first c.args.second)
-    (ap (map node_of) c.in_ok-push.ensures.ok ∙ run_of_two c.args.whole c.args.first c.args.second _ _ c.len-length.result c.in_ok-nodes.ensures (c.len-length.ensures ∙ c.in_ok-nodes.nodes.ok.0) c.node.ensures)
+    (ap (map node_of) c.in_ok-push.ensures.items ∙ run_of_two c.args.whole c.args.first c.args.second _ _ c.len-length.result c.in_ok-nodes.ensures (c.len-length.ensures ∙ c.in_ok-nodes.nodes.ok.0) c.node.ensures)
 
 pub returns : goal.returns
 returns c =
     run_is _ (whole_of c.args.whole c.args.first c.args.second)
-    (ap (map node_of) c.in_ok-push.ensures.ok ∙ run_of_two c.args.whole c.args.first c.args.second _ _ c.len-length.result c.in_ok-nodes.ensures (c.len-length.ensures ∙ c.in_ok-nodes.nodes.ok.0) c.node.ensures)
+    (ap (map node_of) c.in_ok-push.ensures.items ∙ run_of_two c.args.whole c.args.first c.args.second _ _ c.len-length.result c.in_ok-nodes.ensures (c.len-length.ensures ∙ c.in_ok-nodes.nodes.ok.0) c.node.ensures)

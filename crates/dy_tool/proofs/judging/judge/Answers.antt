@@ -1,7 +1,7 @@
 use Rattle.std.proofs.Common.{refl, sym, ◌∙◌}
 use Rattle.std.specs.Prelude.{string_bytes}
 use Rattle.std.proofs.lemmas.Result.{IfOk-weaker}
-use Rattle.dy_syntax.specs.Meaning.{file_of}
+use Rattle.dy_syntax.specs.Small.Meaning.{file_of}
 use Rattle.dy_tool.proofs.DueCases.{input_is_due, wrong_is_none, refused_is_due}
 use Rattle.dy_tool.proofs.judging.judge.Goals as goal
 

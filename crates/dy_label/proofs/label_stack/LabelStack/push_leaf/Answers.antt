@@ -17,8 +17,8 @@ overflow_add-self c =
 pub invariant_of-self-2 : goal.invariant_of-self-2
 invariant_of-self-2 c =
     let runs : map node_of c.self.inside.nodes.items ≡ runs_of c.args.self.now = c.self.invariant.runs ∙ ap runs_of c.self.view_is in
-    let more : map node_of c.push.new.nodes.items ≡ map node_of c.self.inside.nodes.items ++ node_of c.args.leaf ∷ [] =
-    ap (map node_of) c.in_ok-push.ensures.ok ∙ map-append node_of c.self.inside.nodes.items (c.args.leaf ∷ []) in
+    let more : map node_of c.push.new.self.items ≡ map node_of c.self.inside.nodes.items ++ node_of c.args.leaf ∷ [] =
+    ap (map node_of) c.in_ok-push.ensures.items ∙ map-append node_of c.self.inside.nodes.items (c.args.leaf ∷ []) in
     let counted : c.self.inside.count ≡ length c.args.self.now = c.self.invariant.counted ∙ ap length c.self.view_is in
     are_runs _ (labels_after c.args.self.now (node_of c.args.leaf)) _ (more ∙ leaf_after _ _ _ runs c.requires)
     (ap (λ n. n + 1) counted ∙ sym (length-leaf_after c.args.self.now (node_of c.args.leaf) c.requires))
@@ -26,6 +26,6 @@ invariant_of-self-2 c =
 pub returns-clause-ok : goal.returns-clause-ok
 returns-clause-ok c =
     let runs : map node_of c.self.inside.nodes.items ≡ runs_of c.args.self.now = c.self.invariant.runs ∙ ap runs_of c.self.view_is in
-    let more : map node_of c.push.new.nodes.items ≡ map node_of c.self.inside.nodes.items ++ node_of c.args.leaf ∷ [] =
-    ap (map node_of) c.in_ok-push.ensures.ok ∙ map-append node_of c.self.inside.nodes.items (c.args.leaf ∷ []) in
+    let more : map node_of c.push.new.self.items ≡ map node_of c.self.inside.nodes.items ++ node_of c.args.leaf ∷ [] =
+    ap (map node_of) c.in_ok-push.ensures.items ∙ map-append node_of c.self.inside.nodes.items (c.args.leaf ∷ []) in
     runs_are _ (labels_after c.args.self.now (node_of c.args.leaf)) (more ∙ leaf_after _ _ _ runs c.requires)

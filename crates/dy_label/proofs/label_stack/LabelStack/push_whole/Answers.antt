@@ -25,10 +25,10 @@ invariant_of-self-2 c =
     let counted : c.self.inside.count ≡ length c.args.self.now = c.self.invariant.counted ∙ ap length c.self.view_is in
     let shorter = length-with_last_two (whole_of c.args.whole) c.args.self.now c.requires in
     are_runs _ (with_last_two (whole_of c.args.whole) c.args.self.now) _
-    (ap (map node_of) c.in_ok-push.ensures.ok ∙ runs_of_pushed c.args.whole _ _ _ c.args.self.now _ c.deref.ensures.value (c.self.invariant.runs ∙ ap runs_of c.self.view_is) c.requires c.length_of_two-length.ensures c.node.ensures)
+    (ap (map node_of) c.in_ok-push.ensures.items ∙ runs_of_pushed c.args.whole _ _ _ c.args.self.now _ c.deref.ensures.value (c.self.invariant.runs ∙ ap runs_of c.self.view_is) c.requires c.length_of_two-length.ensures c.node.ensures)
     (omega arith)
 
 pub returns-clause-ok : goal.returns-clause-ok
 returns-clause-ok c =
     runs_are _ (with_last_two (whole_of c.args.whole) c.args.self.now)
-    (ap (map node_of) c.in_ok-push.ensures.ok ∙ runs_of_pushed c.args.whole _ _ _ c.args.self.now _ c.deref.ensures.value (c.self.invariant.runs ∙ ap runs_of c.self.view_is) c.requires c.length_of_two-length.ensures c.node.ensures)
+    (ap (map node_of) c.in_ok-push.ensures.items ∙ runs_of_pushed c.args.whole _ _ _ c.args.self.now _ c.deref.ensures.value (c.self.invariant.runs ∙ ap runs_of c.self.view_is) c.requires c.length_of_two-length.ensures c.node.ensures)
