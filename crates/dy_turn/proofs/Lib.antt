@@ -1,0 +1,9 @@
+pub mod Ranges
+pub mod Sums
+pub mod Prefixes
+pub mod Fitting
+pub mod Changing
+pub mod MakingKept
+pub mod DrawingKept
+pub mod ServingKept
+pub mod ReleasingKept

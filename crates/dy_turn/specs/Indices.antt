@@ -1,0 +1,34 @@
+-- Indices in a history, and lists of which one begins the other.
+use Rattle.std.specs.Prelude.{◌≡◌, ℕ, ◌+◌, Bool, ◌&&◌, ◌==◌, nat_lt, nat_le, List, [], ◌∷◌, ◌++◌, length, count_by, if◌then◌else◌}
+
+-- 1 where the index is at least `from` and below `to`, and else 0
+abbrev pub between : ℕ → ℕ → ℕ → ℕ
+between from to index = if nat_le from index && nat_lt index to then 1 else 0
+
+-- how often the index stands in the list
+abbrev pub times : ℕ → List ℕ → ℕ
+times index [] = 0
+times index (x ∷ xs) = (if x == index then 1 else 0) + times index xs
+
+-- the rising list with one index more
+abbrev pub inserted : ℕ → List ℕ → List ℕ
+inserted index [] = index ∷ []
+inserted index (x ∷ xs) = if nat_lt x index then x ∷ inserted index xs else index ∷ x ∷ xs
+
+-- both rising lists as one
+abbrev pub merged : List ℕ → List ℕ → List ℕ
+merged [] ys = ys
+merged (x ∷ xs) ys = inserted x (merged xs ys)
+
+module _ {I : Type 0} where
+  -- the longer of two lists, and the first where they are as long
+  abbrev pub longer : List I → List I → List I
+  longer xs ys = if nat_lt (length xs) (length ys) then ys else xs
+
+  -- the other one
+  abbrev pub shorter : List I → List I → List I
+  shorter xs ys = if nat_lt (length xs) (length ys) then xs else ys
+
+  -- the list after is the list before and one item more
+  abbrev pub GrowsByOne : List I → List I → Type 0
+  GrowsByOne before after = (item : I) × (after ≡ before ++ item ∷ [])

@@ -1,0 +1,15 @@
+//! A lock by which threads take turns at one value, whose history only grows. Each seat knows what it has seen of the history and what is its own.
+#![tactic(auto)]
+
+mod counted;
+mod known;
+mod making;
+mod plays;
+mod seats;
+mod steps;
+mod turns;
+
+pub use counted::{Counted, Memory};
+pub use making::make;
+pub use seats::{Full, Held, Seat};
+pub use turns::{NotWhole, Turn};

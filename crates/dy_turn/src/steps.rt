@@ -1,0 +1,73 @@
+//! The steps on the table. Each keeps the rule, and says which of its parts it may change.
+ghost use Rattle.std.specs.Prelude.{◌≡◌, ℕ, ◌+◌, ◌-◌, ◌%◌, ◌^◌, ◌<◌, [], length};
+ghost use mathlib.Core.List.{IsPrefix};
+ghost use Rattle.dy_turn.specs.declared.known.Stage.TheVariants.{Idle, Waiting};
+ghost use Rattle.dy_turn.specs.Indices.{GrowsByOne};
+ghost use Rattle.dy_turn.specs.Knowing.{OwnFits, ticket_of, staged, having_marked, without, split_off, joined};
+ghost use Rattle.dy_turn.specs.Tellings.{HasTurn};
+ghost use Rattle.dy_turn.specs.Tokens.{StepsOn, IsSame, WaitsFor, Works, HoldsValue};
+
+use crate::counted::Counted;
+use crate::known::{Known, Origin, TurnRule};
+use crate::plays::{Amount, Appended, Cut, Draw, Glue, Look, Mark, Release, Serve};
+use atomic_table::{Seat, Shared};
+use std::sync::Wait;
+
+/// The word that has the length of the history.
+const COUNT: usize = 0;
+
+/// The word that has the tickets drawn.
+const DRAWN: usize = 1;
+
+/// The word that has the tickets served.
+const SERVED: usize = 2;
+
+/// The table as threads share it.
+pub(crate) type Top<T> = Shared<Option<T>, Known<T, <T as Counted>::Item>, Origin<T>, TurnRule>;
+
+/// What a seat steps with.
+pub(crate) type Token<T> = Seat<Option<T>, Known<T, <T as Counted>::Item>>;
+
+/// Draws a ticket: the number of those drawn, and whose ticket it is.
+pub(crate) fn draw<T: Counted>(top: &Top<T>, token: &mut Token<T>) -> u64
+    requires on { StepsOn top.now.table_id token.old }
+    requires idle { token.old.me.0.stage ≡ Idle }
+    ensures same { IsSame token.old token.new }
+    ensures ticket { (ticket : ℕ) × (result ≡ ticket % 2 ^ 64) × (token.new.me ≡ (staged token.old.me.0 (Waiting ticket), token.old.me.1)) }
+{
+    top.fetch_add::<Draw>(token, DRAWN, 1)
+}
+
+/// Waits until the ticket is served, and takes the slot: who has the turn, and what that seat has seen.
+pub(crate) fn wait_for<T: Counted, R: Wait>(
+    rt: &R,
+    top: &Top<T>,
+    token: &mut Token<T>,
+    ticket: u64,
+)
+    requires on { StepsOn top.now.table_id token.old }
+    requires waits { WaitsFor token.old × (ticket ≡ ticket_of token.old.me.0.stage % 2 ^ 64) }
+    ensures same { IsSame token.old token.new }
+    ensures turn { HasTurn T.history T.same_base token.old.me (ticket_of token.old.me.0.stage) token.new.me }
+{
+    for _ in rt.forever() {
+        let served = top.load::<Serve>(token, SERVED);
+        if served == ticket {
+            return;
+        }
+        top.park(rt, SERVED, (served & 0xffff_ffff) as u32);
+    }
+    unreachable!()
+}
+
+/// Serves the next ticket, and gives the slot back: the number of those served, and who has the turn.
+pub(crate) fn release<T: Counted>(top: &Top<T>, token: &mut Token<T>)
+    requires on { StepsOn top.now.table_id token.old }
+    requires works { Works token.old }
+    requires value { HoldsValue T.history T.same_base token.old }
+    ensures same { IsSame token.old token.new }
+    ensures idle { token.new.me ≡ (staged token.old.me.0 Idle, []) }
+{
+    top.fetch_add::<Release>(token, SERVED, 1);
+    top.wake_all(SERVED);
+}
