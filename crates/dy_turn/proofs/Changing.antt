@@ -7,15 +7,15 @@ use Rattle.std.specs.List.{sum_by}
 use Rattle.std.proofs.lemmas.Bool.Decides.{nat_tests}
 use Rattle.std.proofs.lemmas.List.Sums.{sum_by-cons}
 use Rattle.atomic_table.specs.Table.{State}
-use Rattle.atomic_table.proofs.Lists.{at_set, set_again}
+use Rattle.atomic_table.proofs.Lists.{at_set, set_else}
 use Rattle.dy_turn.specs.declared.known.Origin.{Origin}
 use Rattle.dy_turn.specs.declared.known.Stage.{Stage}
 use Rattle.dy_turn.specs.declared.known.Stage.TheVariants.{Idle, Waiting, Working}
 use Rattle.dy_turn.specs.declared.known.Known.{Known}
-use Rattle.dy_turn.specs.Knowing.{waits_with, works_with, waits}
+use Rattle.dy_turn.specs.Knowing.{waits_with, works_with, waits, staged}
 use Rattle.dy_turn.specs.Rules.{IsTurned, IsSpent, Fits}
-use Rattle.dy_turn.proofs.Ranges.{between-some}
-use Rattle.dy_turn.proofs.Sums.{one_of}
+use Rattle.dy_turn.proofs.Ranges.{between-some, between-in}
+use Rattle.dy_turn.proofs.Sums.{one_of, sum_by-set_at}
 
 module _ {V : Type 0} where
   pub at_changed : (vs : List V) (seat : ℕ) (v w : V) → get_elem? vs seat ≡ some v → get_elem? (set vs seat w) seat ≡ some w
@@ -77,3 +77,17 @@ module _ {T I : Type 0} {history : T → List I} {same_base : T → T → Type 0
       let range = between-some kept.served kept.open_from t (omega (arith, kept.working t)) in
       let next = kept.served_next in
       (omega arith, omega arith)
+
+  -- while a seat works, no other does
+  pub works_alone : (id : ℕ) (v : Known T I) (t : ℕ) → get_elem? s.views id ≡ some v → v.stage ≡ Working t
+      → (j : ℕ) (u : Known T I) (t' : ℕ) → j ≢ id → get_elem? s.views j ≡ some u → u.stage ≡ Working t' → ⊥
+  works_alone id v t at works j u t' other there works' =
+      let mine = is_served_here id v t at works in
+      let theirs = is_served_here j u t' there works' in
+      let k : ℕ = kept.served in
+      let w : Known T I = staged v Idle in
+      let one : works_with k v.stage ≡ 1 = ap (works_with k) (works ∙ ap Working (sym mine.0)) ∙ works_with_mine k in
+      let one' : works_with k u.stage ≡ 1 = ap (works_with k) (works' ∙ ap Working (sym theirs.0)) ∙ works_with_mine k in
+      let step = sum_by-set_at (λ (x : Known T I). works_with k x.stage) s.views id v w at in
+      let next = one_of (λ (x : Known T I). works_with k x.stage) (set s.views id w) j u (set_else s.views id j w other ∙ there) in
+      omega (arith, kept.working k, between-in kept.served kept.open_from k (omega arith) mine.1)

@@ -7,3 +7,7 @@ pub mod MakingKept
 pub mod DrawingKept
 pub mod ServingKept
 pub mod ReleasingKept
+pub mod MarkingKept
+pub mod LookingKept
+pub mod SplittingKept
+pub mod JoiningKept

@@ -1,6 +1,9 @@
 -- Prefixes of one history.
 use Rattle.std.proofs.Common.{◌≡◌, ℕ, zero, suc, ◌≤◌, List, [], ◌∷◌, ◌++◌, length, refl, ap, sym, ◌∙◌, arith, append_assoc, length-append}
 use mathlib.Core.List.{IsPrefix}
+use Rattle.std.specs.Prelude.{Bool, true, false, nat_lt, ◌<◌, if◌then◌else◌}
+use Rattle.std.proofs.lemmas.Bool.Decides.{nat_tests}
+use Rattle.dy_turn.specs.Indices.{longer, shorter}
 
 module _ {A : Type 0} where
   pub prefix_self : (xs : List A) → IsPrefix xs xs
@@ -30,3 +33,27 @@ module _ {A : Type 0} where
 
   pub prefix_length : (xs ys : List A) → IsPrefix xs ys → length xs ≤ length ys
   prefix_length xs ys p = omega (arith, sym (ap length p.1) ∙ length-append xs p.0)
+
+  -- the longer of two prefixes of one list
+  pub record LongerFits (xs ys zs : List A) : Type 0 where
+    pub begins : IsPrefix (longer xs ys) zs
+    pub told : IsPrefix (shorter xs ys) (longer xs ys)
+    pub first : length xs ≤ length (longer xs ys)
+    pub second : length ys ≤ length (longer xs ys)
+
+  pub longer_fits : (xs ys zs : List A) → IsPrefix xs zs → IsPrefix ys zs → LongerFits xs ys zs
+  longer_fits xs ys zs p q =
+      let fits = at (nat_lt (length xs) (length ys)) refl in record { begins = fits.0; told = fits.1; first = fits.2; second = fits.3 }
+    where
+      at : (b : Bool) → nat_lt (length xs) (length ys) ≡ b
+          → IsPrefix (if b then ys else xs) zs × IsPrefix (if b then xs else ys) (if b then ys else xs) × (length xs ≤ length (if b then ys else xs)) × (length ys ≤ length (if b then ys else xs))
+      at true is = let less : length xs < length ys = grind (arith, nat_tests) in (q, prefix_shorter xs ys zs p q (omega arith), omega arith, omega arith)
+      at false is = let more : length ys ≤ length xs = grind (arith, nat_tests) in (p, prefix_shorter ys xs zs q p more, omega arith, omega arith)
+
+  -- where the shorter of two lists begins the longer, both begin it
+  pub both_begin : (xs ys : List A) → IsPrefix (shorter xs ys) (longer xs ys) → IsPrefix xs (longer xs ys) × IsPrefix ys (longer xs ys)
+  both_begin xs ys told = at (nat_lt (length xs) (length ys)) told
+    where
+      at : (b : Bool) → IsPrefix (if b then xs else ys) (if b then ys else xs) → IsPrefix xs (if b then ys else xs) × IsPrefix ys (if b then ys else xs)
+      at true p = (p, prefix_self ys)
+      at false p = (prefix_self xs, p)

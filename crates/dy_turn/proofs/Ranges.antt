@@ -2,7 +2,7 @@
 use Rattle.std.proofs.Common.{◌≡◌, ℕ, zero, suc, ◌+◌, ◌<◌, ◌≤◌, ◌==◌, Bool, true, false, if◌then◌else◌, List, [], ◌∷◌, ◌++◌, length, refl, ap, sym, ◌∙◌, arith}
 use Rattle.std.specs.Prelude.{nat_lt}
 use Rattle.std.proofs.lemmas.Bool.Decides.{nat_tests}
-use Rattle.dy_turn.specs.Indices.{between, times, inserted, merged}
+use Rattle.dy_turn.specs.Indices.{once, between, times, inserted, merged}
 
 pub between-none : (a k : ℕ) → between a a k ≡ 0
 between-none a k = grind (arith, nat_tests)
@@ -17,21 +17,21 @@ between-beyond a b k to = grind (arith, nat_tests)
 pub between-some : (a b k : ℕ) → 0 < between a b k → (a ≤ k) × (k < b)
 between-some a b k some = (grind (arith, nat_tests), grind (arith, nat_tests))
 
-pub between-next : (a b k : ℕ) → a ≤ b → between a (b + 1) k ≡ between a b k + (if b == k then 1 else 0)
+pub between-next : (a b k : ℕ) → a ≤ b → between a (b + 1) k ≡ between a b k + once b k
 between-next a b k le = grind (arith, nat_tests)
 
-pub between-rest : (a b k : ℕ) → a < b → between (a + 1) b k + (if a == k then 1 else 0) ≡ between a b k
+pub between-rest : (a b k : ℕ) → a < b → between (a + 1) b k + once a k ≡ between a b k
 between-rest a b k le = grind (arith, nat_tests)
 
 -- the first index of a range leaves it
-pub leaves_range : (first from to k now was : ℕ) → from ≡ first → first < to → now + (if first == k then 1 else 0) ≡ was → was ≡ between from to k → now ≡ between (first + 1) to k
+pub leaves_range : (first from to k now was : ℕ) → from ≡ first → first < to → now + once first k ≡ was → was ≡ between from to k → now ≡ between (first + 1) to k
 leaves_range first from to k now was is some step sum =
     let rest = between-rest first to k some in
     let e : between from to k ≡ between first to k = ap (λ n. between n to k) is in
     omega arith
 
 -- the index after a range enters it
-pub enters_range : (from to last k now was : ℕ) → to ≡ last → from ≤ last → now ≡ was + (if last == k then 1 else 0) → was ≡ between from to k → now ≡ between from (last + 1) k
+pub enters_range : (from to last k now was : ℕ) → to ≡ last → from ≤ last → now ≡ was + once last k → was ≡ between from to k → now ≡ between from (last + 1) k
 enters_range from to last k now was is some step sum =
     let next = between-next from last k some in
     let e : between from to k ≡ between from last k = ap (λ n. between from n k) is in
@@ -41,16 +41,16 @@ enters_range from to last k now was is some step sum =
 pub between-same : (a b c k : ℕ) → k < b → k < c → between a b k ≡ between a c k
 between-same a b c k h i = grind (arith, nat_tests)
 
-pub times-append : (k : ℕ) (xs ys : List ℕ) → times k (xs ++ ys) ≡ times k xs + times k ys
-times-append k [] ys = omega arith
-times-append k (x ∷ xs) ys = let r = times-append k xs ys in omega arith
+pub times-push : (k x : ℕ) (xs : List ℕ) → times k (xs ++ x ∷ []) ≡ times k xs + once x k
+times-push k x [] = omega arith
+times-push k x (y ∷ ys) = omega (arith, times-push k x ys)
 
-pub times-inserted : (k x : ℕ) (xs : List ℕ) → times k (inserted x xs) ≡ (if x == k then 1 else 0) + times k xs
+pub times-inserted : (k x : ℕ) (xs : List ℕ) → times k (inserted x xs) ≡ once x k + times k xs
 times-inserted k x [] = refl
 times-inserted k x (y ∷ ys) = at (nat_lt y x) (times-inserted k x ys)
   where
-    at : (b : Bool) → times k (inserted x ys) ≡ (if x == k then 1 else 0) + times k ys
-        → times k (if b then y ∷ inserted x ys else x ∷ y ∷ ys) ≡ (if x == k then 1 else 0) + times k (y ∷ ys)
+    at : (b : Bool) → times k (inserted x ys) ≡ once x k + times k ys
+        → times k (if b then y ∷ inserted x ys else x ∷ y ∷ ys) ≡ once x k + times k (y ∷ ys)
     at true r = omega arith
     at false r = refl
 

@@ -8,7 +8,7 @@ use Rattle.atomic_table.specs.Table.{State, Me, Allows, step, stepped, gives, re
 use Rattle.dy_turn.specs.declared.known.Origin.{Origin}
 use Rattle.dy_turn.specs.declared.known.Stage.TheVariants.{Idle, Working}
 use Rattle.dy_turn.specs.declared.known.Known.{Known}
-use Rattle.dy_turn.specs.Indices.{times, between}
+use Rattle.dy_turn.specs.Indices.{once, times, between}
 use Rattle.dy_turn.specs.Knowing.{waits_with, works_with, waits, staged}
 use Rattle.dy_turn.specs.Rules.{IsTurned, Fits}
 use Rattle.dy_turn.specs.Tellings.{Releases}
@@ -45,8 +45,8 @@ module _ {T I : Type 0} (history : T → List I) (same_base : T → T → Type 0
               let e : waits_with k v.stage ≡ 0 = ap (waits_with k) works in
               omega (arith, sum_by-set_at (λ (u : Known T I). waits_with k u.stage) s.views id v w at, kept.waiting k);
           working = λ k.
-              let e : works_with k v.stage ≡ (if kept.served == k then 1 else 0) = ap (works_with k) works ∙ ap (λ n. if n == k then 1 else 0) (sym here.0) in
-              let step : sum_by (λ (u : Known T I). works_with k u.stage) (set s.views id w) + (if kept.served == k then 1 else 0) ≡ sum_by (λ (u : Known T I). works_with k u.stage) s.views =
+              let e : works_with k v.stage ≡ once kept.served k = ap (works_with k) works ∙ ap (λ n. once n k) (sym here.0) in
+              let step : sum_by (λ (u : Known T I). works_with k u.stage) (set s.views id w) + once kept.served k ≡ sum_by (λ (u : Known T I). works_with k u.stage) s.views =
                   omega (arith, sum_by-set_at (λ (u : Known T I). works_with k u.stage) s.views id v w at) in
               leaves_range kept.served kept.served kept.open_from k _ _ refl here.1 step (kept.working k);
           home = λ _. (value, ap (λ c. put_back s.homes c) carried ∙ ap (λ hs. slice_set hs 0 (some (Some value))) (kept.away here.1), shown ∙ is.whole t works, based origin is.same);

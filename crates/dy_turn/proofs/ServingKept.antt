@@ -12,7 +12,7 @@ use Rattle.atomic_table.proofs.Lists.{one_turn, set_again}
 use Rattle.dy_turn.specs.declared.known.Origin.{Origin}
 use Rattle.dy_turn.specs.declared.known.Stage.TheVariants.{Idle, Waiting, Working}
 use Rattle.dy_turn.specs.declared.known.Known.{Known}
-use Rattle.dy_turn.specs.Indices.{between, times}
+use Rattle.dy_turn.specs.Indices.{once, between, times}
 use Rattle.dy_turn.specs.Knowing.{waits_with, works_with, waits, ticket_of, staged, having_seen}
 use Rattle.dy_turn.specs.Rules.{IsTurned, Fits}
 use Rattle.dy_turn.specs.Tellings.{HasTurn, Serves}
@@ -72,14 +72,14 @@ module _ {T I : Type 0} (history : T → List I) (same_base : T → T → Type 0
               let e : waits v.stage ≡ 1 = ap waits waits_here in
               omega (arith, sum_by-set_at (λ (u : Known T I). waits u.stage) s.views id v w at, kept.line);
           waiting = λ k.
-              let e : waits_with k v.stage ≡ (if kept.served == k then 1 else 0) = ap (waits_with k) waits_here ∙ ap (λ n. if n == k then 1 else 0) (sym served) in
-              let step : sum_by (λ (u : Known T I). waits_with k u.stage) (set s.views id w) + (if kept.served == k then 1 else 0) ≡ sum_by (λ (u : Known T I). waits_with k u.stage) s.views =
+              let e : waits_with k v.stage ≡ once kept.served k = ap (waits_with k) waits_here ∙ ap (λ n. once n k) (sym served) in
+              let step : sum_by (λ (u : Known T I). waits_with k u.stage) (set s.views id w) + once kept.served k ≡ sum_by (λ (u : Known T I). waits_with k u.stage) s.views =
                   omega (arith, sum_by-set_at (λ (u : Known T I). waits_with k u.stage) s.views id v w at) in
               leaves_range kept.served kept.open_from kept.drawn k _ _ here (omega arith) step (kept.waiting k);
           working = λ k.
               let e : works_with k v.stage ≡ 0 = ap (works_with k) waits_here in
-              let e' : works_with k w.stage ≡ (if kept.served == k then 1 else 0) = ap (λ n. if n == k then 1 else 0) (sym served) in
-              let step : sum_by (λ (u : Known T I). works_with k u.stage) (set s.views id w) ≡ sum_by (λ (u : Known T I). works_with k u.stage) s.views + (if kept.served == k then 1 else 0) =
+              let e' : works_with k w.stage ≡ once kept.served k = ap (λ n. once n k) (sym served) in
+              let step : sum_by (λ (u : Known T I). works_with k u.stage) (set s.views id w) ≡ sum_by (λ (u : Known T I). works_with k u.stage) s.views + once kept.served k =
                   omega (arith, sum_by-set_at (λ (u : Known T I). works_with k u.stage) s.views id v w at) in
               enters_range kept.served kept.open_from kept.served k _ _ here (omega arith) step (kept.working k);
           home = λ none. absurd (omega arith);

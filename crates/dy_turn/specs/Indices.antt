@@ -1,6 +1,10 @@
 -- Indices in a history, and lists of which one begins the other.
 use Rattle.std.specs.Prelude.{◌≡◌, ℕ, ◌+◌, Bool, ◌&&◌, ◌==◌, nat_lt, nat_le, List, [], ◌∷◌, ◌++◌, length, count_by, if◌then◌else◌}
 
+-- 1 where they are the same, and else 0
+abbrev pub once : ℕ → ℕ → ℕ
+once x y = if x == y then 1 else 0
+
 -- 1 where the index is at least `from` and below `to`, and else 0
 abbrev pub between : ℕ → ℕ → ℕ → ℕ
 between from to index = if nat_le from index && nat_lt index to then 1 else 0
@@ -8,7 +12,7 @@ between from to index = if nat_le from index && nat_lt index to then 1 else 0
 -- how often the index stands in the list
 abbrev pub times : ℕ → List ℕ → ℕ
 times index [] = 0
-times index (x ∷ xs) = (if x == index then 1 else 0) + times index xs
+times index (x ∷ xs) = once x index + times index xs
 
 -- the rising list with one index more
 abbrev pub inserted : ℕ → List ℕ → List ℕ

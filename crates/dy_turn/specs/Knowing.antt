@@ -4,16 +4,16 @@ use Rattle.dy_turn.specs.declared.known.Origin.{Origin}
 use Rattle.dy_turn.specs.declared.known.Stage.{Stage}
 use Rattle.dy_turn.specs.declared.known.Stage.TheVariants.{Idle, Waiting, Working}
 use Rattle.dy_turn.specs.declared.known.Known.{Known}
-use Rattle.dy_turn.specs.Indices.{between, times, merged, longer, shorter}
+use Rattle.dy_turn.specs.Indices.{once, between, times, merged, longer, shorter}
 
 -- 1 for a seat that waits with this ticket
 abbrev pub waits_with : ℕ → Stage → ℕ
-waits_with ticket (Waiting mine) = if mine == ticket then 1 else 0
+waits_with ticket (Waiting mine) = once mine ticket
 waits_with ticket _ = 0
 
 -- 1 for a seat that has the turn by this ticket
 abbrev pub works_with : ℕ → Stage → ℕ
-works_with ticket (Working mine) = if mine == ticket then 1 else 0
+works_with ticket (Working mine) = once mine ticket
 works_with ticket _ = 0
 
 -- 1 for a seat that waits

@@ -71,3 +71,50 @@ pub(crate) fn release<T: Counted>(top: &Top<T>, token: &mut Token<T>)
     top.fetch_add::<Release>(token, SERVED, 1);
     top.wake_all(SERVED);
 }
+
+/// Stores the length of a history with one item more: the history, what the seat has seen and what is its own.
+pub(crate) fn append<T: Counted, L: Appended<T::Item>>(
+    top: &Top<T>,
+    token: &mut Token<T>,
+    count: u64,
+)
+    requires on { StepsOn top.now.table_id token.old }
+    requires works { Works token.old }
+    requires grown { GrowsByOne token.old.me.0.saw L.log × (count ≡ length L.log) }
+    ensures same { IsSame token.old token.new }
+    ensures marked { token.new.me ≡ (having_marked token.old.me.0 L.log, token.old.me.1) }
+    ensures fits { OwnFits token.new.me.0 }
+{
+    top.store::<Mark<L>>(token, COUNT, count)
+}
+
+/// Looks at the length of the history, and changes nothing.
+pub(crate) fn look<T: Counted>(top: &Top<T>, token: &mut Token<T>)
+    requires on { StepsOn top.now.table_id token.old }
+    ensures same { IsSame token.old token.new × (token.new.me ≡ token.old.me) }
+    ensures told { IsPrefix token.old.me.0.told token.old.me.0.saw }
+    ensures fits { OwnFits token.old.me.0 }
+{
+    top.load::<Look>(token, COUNT);
+}
+
+/// Splits off a seat: the new seat, and how many parts are left.
+pub(crate) fn cut<T: Counted, N: Amount>(top: &Top<T>, token: &mut Token<T>) -> Token<T>
+    requires on { StepsOn top.now.table_id token.old }
+    requires some { (0 < N.amount) × (N.amount < token.old.me.0.parts) }
+    ensures same { IsSame token.old token.new }
+    ensures left { token.new.me ≡ (without N.amount token.old.me.0, token.old.me.1) }
+    ensures right { (result.table_id ≡ token.old.table_id) × (result.me ≡ (split_off N.amount token.old.me.0, [])) }
+{
+    top.split_seat::<Cut<N>>(token)
+}
+
+/// Joins another seat: what the seat has seen, what is its own and its parts, and the other is spent.
+pub(crate) fn glue<T: Counted>(top: &Top<T>, token: &mut Token<T>, other: Token<T>)
+    requires on { StepsOn top.now.table_id token.old × StepsOn top.now.table_id other }
+    requires idle { (token.old.me.0.stage ≡ Idle) × (other.me.0.stage ≡ Idle) × (other.me.1 ≡ []) }
+    ensures same { IsSame token.old token.new }
+    ensures joined { token.new.me ≡ (joined token.old.me.0 other.me.0, token.old.me.1) }
+{
+    top.join_seat::<Glue>(token, other);
+}
