@@ -11,9 +11,13 @@ use Rattle.dy_turn.specs.declared.known.Known.{Known}
 use Rattle.dy_turn.specs.Indices.{between, times}
 use Rattle.dy_turn.specs.Knowing.{OwnFits, start_of, seats_of}
 use Rattle.dy_turn.specs.Rules.{IsTurned, IsLive}
-use Rattle.dy_turn.proofs.Ranges.{between-beyond, between-same}
+use Rattle.dy_turn.proofs.Ranges.{between-beyond, between-most, between-same}
 use Rattle.dy_turn.proofs.Sums.{one_of, sum_by-alone}
 use Rattle.dy_turn.proofs.Prefixes.{prefix_length}
+
+-- an index stands in what is a seat's own once at most
+pub own_once : {T I : Type 0} (known : Known T I) → OwnFits known → (k : ℕ) → times k known.own ≤ 1
+own_once known fits k = omega (arith, fits.within k, between-most (start_of known.origin) (length known.saw) k)
 
 module _ {T I : Type 0} {history : T → List I} {same_base : T → T → Type 0} {origin : Origin T} (s : State (Option T) (Known T I)) (kept : IsTurned history same_base origin s) where
   module _ (seat : ℕ) (known : Known T I) (at : get_elem? s.views seat ≡ some known) (some_parts : 0 < known.parts) where

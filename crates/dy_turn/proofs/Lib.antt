@@ -11,3 +11,4 @@ pub mod MarkingKept
 pub mod LookingKept
 pub mod SplittingKept
 pub mod JoiningKept
+pub mod ClosingKept

@@ -57,3 +57,6 @@ times-inserted k x (y ∷ ys) = at (nat_lt y x) (times-inserted k x ys)
 pub times-merged : (k : ℕ) (xs ys : List ℕ) → times k (merged xs ys) ≡ times k xs + times k ys
 times-merged k [] ys = omega arith
 times-merged k (x ∷ xs) ys = omega (arith, times-inserted k x (merged xs ys), times-merged k xs ys)
+
+pub between-most : (a b k : ℕ) → between a b k ≤ 1
+between-most a b k = grind (arith, nat_tests)

@@ -1,5 +1,6 @@
 -- What clauses say of turns and seats.
-use Rattle.std.specs.Prelude.{◌≡◌, ℕ, Option, Some, None, List, [], ◌∷◌}
+use Rattle.std.specs.Prelude.{◌≡◌, ℕ, ◌+◌, ◌≤◌, Option, Some, None, List, [], ◌∷◌, length}
+use Rattle.dy_turn.specs.Indices.{between, times}
 use Rattle.dy_turn.specs.declared.known.Stage.TheVariants.{Idle, Working}
 use Rattle.dy_turn.specs.declared.counted.Counted.{Ghosts}
 use Rattle.dy_turn.specs.declared.seats.Seat.{Seat}
@@ -9,6 +10,10 @@ module _ {T I : Type 0} where
   -- the value that the turn was made with
   abbrev pub first : Turn T I → T
   first turn = turn.board.shared.key.first.value
+
+  -- how many items the history had then
+  abbrev pub start : Turn T I → ℕ
+  start turn = turn.board.shared.key.start
 
   -- how many seats it was made for
   abbrev pub seats : Turn T I → ℕ
@@ -38,3 +43,13 @@ module _ {T I : Type 0} {g : Ghosts T I} where
   -- the seat is one of this turn
   abbrev pub IsOf : Turn T I → Seat T I g → Type 0
   IsOf turn seat = (seat.token.table_id ≡ turn.board.shared.table_id) × (seat.token.me.0.origin ≡ Some turn.board.shared.key)
+
+  -- all other seats were joined to this one
+  abbrev pub HasAllRoom : Turn T I → Seat T I g → Type 0
+  HasAllRoom turn seat = room seat + 1 ≡ seats turn
+
+  -- Each index that is the seat's own is one since the turn was made, the seat has seen it, and it stands there once. Of a seat that has all room
+  -- these are all indices since the turn was made.
+  pub record Owns (turn : Turn T I) (seat : Seat T I g) : Type 0 where
+    pub only : (index : ℕ) → times index (own seat) ≤ between (start turn) (length (saw seat)) index
+    pub all : HasAllRoom turn seat → (index : ℕ) → times index (own seat) ≡ between (start turn) (length (saw seat)) index

@@ -1,12 +1,15 @@
 //! A lock by which threads take turns at one value, whose history only grows. Each seat knows what it has seen of the history and what is its own.
 #![tactic(auto)]
 
+mod closing;
 mod counted;
 mod known;
 mod making;
 mod plays;
+mod rooms;
 mod seats;
 mod steps;
+mod taking;
 mod turns;
 
 pub use counted::{Counted, Memory};

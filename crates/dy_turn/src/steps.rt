@@ -1,5 +1,5 @@
 //! The steps on the table. Each keeps the rule, and says which of its parts it may change.
-ghost use Rattle.std.specs.Prelude.{◌≡◌, ℕ, ◌+◌, ◌-◌, ◌%◌, ◌^◌, ◌<◌, [], length};
+ghost use Rattle.std.specs.Prelude.{◌≡◌, ℕ, ◌+◌, ◌-◌, ◌%◌, ◌^◌, ◌<◌, [], ◌∷◌};
 ghost use mathlib.Core.List.{IsPrefix};
 ghost use Rattle.dy_turn.specs.declared.known.Stage.TheVariants.{Idle, Waiting};
 ghost use Rattle.dy_turn.specs.Indices.{GrowsByOne};
@@ -60,6 +60,30 @@ pub(crate) fn wait_for<T: Counted, R: Wait>(
     unreachable!()
 }
 
+/// Takes the value out of the slot that the seat has: what is in the slot, and no part of the rule.
+pub(crate) fn take_out<T: Counted>(top: &Top<T>, token: &mut Token<T>) -> T
+    requires on { StepsOn top.now.table_id token.old }
+    requires full { (value : T) × (token.old.me.1 ≡ (0, Some value) ∷ []) }
+    ensures same { IsSame token.old token.new }
+    ensures value { token.old.me.1 ≡ (0, Some result) ∷ [] }
+    ensures empty { token.new.me ≡ (token.old.me.0, (0, None) ∷ []) }
+{
+    match top.exchange(token, 0, None) {
+        Some(value) => value,
+        None => unreachable!(),
+    }
+}
+
+/// Puts the value into the slot that the seat has: what is in the slot, and no part of the rule.
+pub(crate) fn put_in<T: Counted>(top: &Top<T>, token: &mut Token<T>, value: T)
+    requires on { StepsOn top.now.table_id token.old }
+    requires empty { token.old.me.1 ≡ (0, None) ∷ [] }
+    ensures same { IsSame token.old token.new }
+    ensures full { token.new.me ≡ (token.old.me.0, (0, Some value) ∷ []) }
+{
+    drop(top.exchange(token, 0, Some(value)));
+}
+
 /// Serves the next ticket, and gives the slot back: the number of those served, and who has the turn.
 pub(crate) fn release<T: Counted>(top: &Top<T>, token: &mut Token<T>)
     requires on { StepsOn top.now.table_id token.old }
@@ -76,16 +100,17 @@ pub(crate) fn release<T: Counted>(top: &Top<T>, token: &mut Token<T>)
 pub(crate) fn append<T: Counted, L: Appended<T::Item>>(
     top: &Top<T>,
     token: &mut Token<T>,
-    count: u64,
+    value: &T,
 )
     requires on { StepsOn top.now.table_id token.old }
     requires works { Works token.old }
-    requires grown { GrowsByOne token.old.me.0.saw L.log × (count ≡ length L.log) }
+    requires log { L.log ≡ T.history value.now }
+    requires grown { GrowsByOne token.old.me.0.saw L.log }
     ensures same { IsSame token.old token.new }
     ensures marked { token.new.me ≡ (having_marked token.old.me.0 L.log, token.old.me.1) }
     ensures fits { OwnFits token.new.me.0 }
 {
-    top.store::<Mark<L>>(token, COUNT, count)
+    top.store::<Mark<L>>(token, COUNT, value.count());
 }
 
 /// Looks at the length of the history, and changes nothing.
@@ -99,12 +124,17 @@ pub(crate) fn look<T: Counted>(top: &Top<T>, token: &mut Token<T>)
 }
 
 /// Splits off a seat: the new seat, and how many parts are left.
-pub(crate) fn cut<T: Counted, N: Amount>(top: &Top<T>, token: &mut Token<T>) -> Token<T>
+pub(crate) fn cut<T: Counted, N: Amount>(
+    top: &Top<T>,
+    token: &mut Token<T>,
+    room: u32,
+) -> Token<T>
     requires on { StepsOn top.now.table_id token.old }
-    requires some { (0 < N.amount) × (N.amount < token.old.me.0.parts) }
+    requires amount { N.amount ≡ room + 1 }
+    requires less { room + 1 < token.old.me.0.parts }
     ensures same { IsSame token.old token.new }
-    ensures left { token.new.me ≡ (without N.amount token.old.me.0, token.old.me.1) }
-    ensures right { (result.table_id ≡ token.old.table_id) × (result.me ≡ (split_off N.amount token.old.me.0, [])) }
+    ensures left { token.new.me ≡ (without (room + 1) token.old.me.0, token.old.me.1) }
+    ensures right { (result.table_id ≡ token.old.table_id) × (result.me ≡ (split_off (room + 1) token.old.me.0, [])) }
 {
     top.split_seat::<Cut<N>>(token)
 }
