@@ -49,7 +49,7 @@ module _ {T I : Type 0} (history : T → List I) (same_base : T → T → Type 0
           each = each_changed (Fits origin kept.log) s.views id w
               (let is = (kept.each id v at).0 some_parts in
               (
-                (λ _. record { same = is.same; seen = is.seen; told = is.told; started = is.started; bound = is.bound; whole = λ ticket e. absurd (cc) }),
+                (λ _. record { same = is.same; seen = is.seen; told = is.told; started = is.started; rising = is.rising; bound = is.bound; whole = λ ticket e. absurd (cc) }),
                 λ none. absurd (omega arith),
               ))
               (λ j u _ here. kept.each j u here);

@@ -38,6 +38,7 @@ module _ {T I : Type 0} {history : T → List I} {same_base : T → T → Type 0
         let len = prefix_length known.saw kept.log is.seen in
         record {
           started = omega (arith, is.started);
+          rising = is.rising;
           few = omega (arith, one_of (λ (v : Known T I). v.parts) s.views seat known at, kept.rooms);
           within = λ k. within_at k (dec_le (length known.saw) k);
           all = λ whole k. all_at (whole ∙ seats) k (dec_le (length known.saw) k);

@@ -5,18 +5,19 @@ use lib.ListN.{get_elem?}
 use Rattle.std.specs.Prelude.{Option}
 use Rattle.std.specs.List.{sum_by}
 use Rattle.atomic_table.specs.Table.{State, Joins}
-use Rattle.atomic_table.proofs.Lists.{at_set}
+use Rattle.atomic_table.proofs.Lists.{at_set, set_else}
 use Rattle.dy_turn.specs.declared.known.Origin.{Origin}
 use Rattle.dy_turn.specs.declared.known.Stage.TheVariants.{Idle}
 use Rattle.dy_turn.specs.declared.known.Known.{Known}
 use Rattle.dy_turn.specs.Indices.{times}
 use Rattle.dy_turn.specs.Knowing.{waits_with, works_with, waits, joined, spent}
 use Rattle.dy_turn.specs.Rules.{IsTurned, Fits}
-use Rattle.dy_turn.proofs.Ranges.{times-merged}
+use Rattle.dy_turn.proofs.Ranges.{times-merged, between-most}
+use Rattle.dy_turn.proofs.Rising.{is_rising-merged}
 use Rattle.dy_turn.proofs.Prefixes.{longer_fits}
-use Rattle.dy_turn.proofs.Sums.{sum_by-set_at}
+use Rattle.dy_turn.proofs.Sums.{one_of, sum_by-set_at}
 use Rattle.dy_turn.proofs.Fitting.{live}
-use Rattle.dy_turn.proofs.Changing.{each_changed}
+use Rattle.dy_turn.proofs.Changing.{at_changed, each_changed}
 
 module _ {T I : Type 0} (history : T → List I) (same_base : T → T → Type 0) (origin : Origin T) where
   pub joins : (id : ℕ) (v : Known T I) (other : ℕ) (x : Known T I) → 0 < v.parts → 0 < x.parts → v.stage ≡ Idle → x.stage ≡ Idle
@@ -28,6 +29,17 @@ module _ {T I : Type 0} (history : T → List I) (same_base : T → T → Type 0
       let before : get_elem? s.views other ≡ some x = ⊎_elim (λ (e : (other ≡ id) × (both ≡ x)). absurd (apart e.0)) (λ (e : (other ≢ id) × (get_elem? s.views other ≡ some x)). e.1) (at_set s.views id other both x there) in
       let is = live s kept id v at positive in
       let theirs = live s kept other x before positive' in
+      let apart_here : (k : ℕ) → times k v.own + times k x.own ≤ 1 = λ k.
+          omega
+              (
+                arith,
+                one_of (λ (u : Known T I). times k u.own) (set vs other none) id both (set_else vs other id none (λ e. apart (sym e)) ∙ at_changed s.views id v both at),
+                sum_by-set_at (λ (u : Known T I). times k u.own) s.views id v both at,
+                sum_by-set_at (λ (u : Known T I). times k u.own) vs other x none there,
+                times-merged k v.own x.own,
+                kept.owned k,
+                between-most origin.start (length kept.log) k,
+              ) in
       let longer = longer_fits v.saw x.saw kept.log is.seen theirs.seen in
       record {
         log = kept.log;
@@ -58,6 +70,7 @@ module _ {T I : Type 0} (history : T → List I) (same_base : T → T → Type 0
                     seen = longer.begins;
                     told = longer.told;
                     started = omega (arith, is.started, longer.first);
+                    rising = is_rising-merged v.own x.own is.rising theirs.rising apart_here;
                     bound = λ k far. omega (arith, times-merged k v.own x.own, is.bound k (omega (arith, longer.first)), theirs.bound k (omega (arith, longer.second)));
                     whole = λ ticket works. absurd (cc);
                   }),

@@ -1,4 +1,5 @@
 pub mod Ranges
+pub mod Rising
 pub mod Sums
 pub mod Prefixes
 pub mod Fitting

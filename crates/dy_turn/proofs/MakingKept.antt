@@ -44,6 +44,7 @@ module _ {T I : Type 0} (history : T → List I) (same_base : T → T → Type 0
           seen = prefix_self (history origin.first.value);
           told = (history origin.first.value, refl);
           started = omega arith;
+          rising = refl;
           bound = λ k far. refl;
           whole = λ ticket is. absurd (cc);
         }),

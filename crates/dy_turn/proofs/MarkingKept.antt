@@ -15,6 +15,7 @@ use Rattle.dy_turn.specs.Knowing.{waits_with, works_with, waits, having_marked}
 use Rattle.dy_turn.specs.Rules.{IsTurned, IsLive, Fits}
 use Rattle.dy_turn.specs.Tellings.{Marks}
 use Rattle.dy_turn.proofs.Ranges.{times-push, enters_range}
+use Rattle.dy_turn.proofs.Rising.{is_rising-push}
 use Rattle.dy_turn.proofs.Sums.{sum_by-set_at}
 use Rattle.dy_turn.proofs.Prefixes.{prefix_self, prefix_trans, prefix_length}
 use Rattle.dy_turn.proofs.Fitting.{live, own_fits}
@@ -66,6 +67,7 @@ module _ {T I : Type 0} (history : T → List I) (same_base : T → T → Type 0
                 seen = prefix_self log;
                 told = prefix_trans v.told v.saw log is.told begins;
                 started = omega (arith, is.started);
+                rising = is_rising-push v.own (length v.saw) is.rising is.bound;
                 bound = λ k far. omega (arith, times-push k (length v.saw) v.own, is.bound k (omega arith), other_index (length v.saw) k (omega arith));
                 whole = λ _ _. refl;
               }),
@@ -79,6 +81,7 @@ module _ {T I : Type 0} (history : T → List I) (same_base : T → T → Type 0
                     seen = prefix_trans u.saw kept.log log theirs.seen begins';
                     told = theirs.told;
                     started = theirs.started;
+                    rising = theirs.rising;
                     bound = theirs.bound;
                     whole = λ t' works'. absurd (works_alone s kept id v t at works j u t' other there works');
                   }),

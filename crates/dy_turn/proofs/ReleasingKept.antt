@@ -56,7 +56,7 @@ module _ {T I : Type 0} (history : T → List I) (same_base : T → T → Type 0
           few = kept.few;
           each = each_changed (Fits origin kept.log) s.views id w
               (
-                (λ _. record { same = is.same; seen = is.seen; told = is.told; started = is.started; bound = is.bound; whole = λ ticket e. absurd (cc) }),
+                (λ _. record { same = is.same; seen = is.seen; told = is.told; started = is.started; rising = is.rising; bound = is.bound; whole = λ ticket e. absurd (cc) }),
                 λ none. absurd (omega arith),
               )
               (λ j u _ there. kept.each j u there);

@@ -94,6 +94,7 @@ module _ {T I : Type 0} (history : T → List I) (same_base : T → T → Type 0
                   seen = subst (λ xs. IsPrefix xs kept.log) (sym shown) (prefix_self kept.log);
                   told = prefix_trans v.told v.saw (history value) is.told seen;
                   started = omega (arith, is.started);
+                  rising = is.rising;
                   bound = λ k far. is.bound k (omega arith);
                   whole = λ _ _. shown;
                 }),

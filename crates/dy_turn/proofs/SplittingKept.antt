@@ -41,13 +41,13 @@ module _ {T I : Type 0} (history : T → List I) (same_base : T → T → Type 0
         each = λ j u there. ⊎_elim
             (λ old. each_changed (Fits origin kept.log) s.views id left
                 (
-                  (λ _. record { same = is.same; seen = is.seen; told = is.told; started = is.started; bound = is.bound; whole = is.whole }),
+                  (λ _. record { same = is.same; seen = is.seen; told = is.told; started = is.started; rising = is.rising; bound = is.bound; whole = is.whole }),
                   λ none. absurd (omega arith),
                 )
                 (λ i x _ here. kept.each i x here) j u old)
             (λ (new : right ≡ u). subst (Fits origin kept.log) new
                 (
-                  (λ _. record { same = is.same; seen = is.seen; told = (v.saw, refl); started = is.started; bound = λ k far. refl; whole = λ ticket e. absurd (cc) }),
+                  (λ _. record { same = is.same; seen = is.seen; told = (v.saw, refl); started = is.started; rising = refl; bound = λ k far. refl; whole = λ ticket e. absurd (cc) }),
                   λ none. absurd (omega arith),
                 ))
             (at_snoc vs right u j there);

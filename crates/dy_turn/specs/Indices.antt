@@ -1,5 +1,5 @@
 -- Indices in a history, and lists of which one begins the other.
-use Rattle.std.specs.Prelude.{◌≡◌, ℕ, ◌+◌, Bool, ◌&&◌, ◌==◌, nat_lt, nat_le, List, [], ◌∷◌, ◌++◌, length, count_by, if◌then◌else◌}
+use Rattle.std.specs.Prelude.{◌≡◌, ℕ, ◌+◌, Bool, true, ◌&&◌, ◌==◌, nat_lt, nat_le, List, [], ◌∷◌, ◌++◌, length, count_by, if◌then◌else◌}
 
 -- 1 where they are the same, and else 0
 abbrev pub once : ℕ → ℕ → ℕ
@@ -13,6 +13,16 @@ between from to index = if nat_le from index && nat_lt index to then 1 else 0
 abbrev pub times : ℕ → List ℕ → ℕ
 times index [] = 0
 times index (x ∷ xs) = once x index + times index xs
+
+-- the index is below the first of the list, if there is one
+abbrev pub is_below : ℕ → List ℕ → Bool
+is_below index [] = true
+is_below index (x ∷ xs) = nat_lt index x
+
+-- each index of the list is below the next
+abbrev pub is_rising : List ℕ → Bool
+is_rising [] = true
+is_rising (x ∷ xs) = is_below x xs && is_rising xs
 
 -- the rising list with one index more
 abbrev pub inserted : ℕ → List ℕ → List ℕ

@@ -1,10 +1,10 @@
 -- What seats know, as plain data.
-use Rattle.std.specs.Prelude.{◌≡◌, ℕ, ◌+◌, ◌-◌, ◌<◌, ◌≤◌, ◌==◌, Option, Some, None, List, [], ◌∷◌, ◌++◌, length, if◌then◌else◌}
+use Rattle.std.specs.Prelude.{◌≡◌, ℕ, ◌+◌, ◌-◌, ◌<◌, ◌≤◌, ◌==◌, true, Option, Some, None, List, [], ◌∷◌, ◌++◌, length, if◌then◌else◌}
 use Rattle.dy_turn.specs.declared.known.Origin.{Origin}
 use Rattle.dy_turn.specs.declared.known.Stage.{Stage}
 use Rattle.dy_turn.specs.declared.known.Stage.TheVariants.{Idle, Waiting, Working}
 use Rattle.dy_turn.specs.declared.known.Known.{Known}
-use Rattle.dy_turn.specs.Indices.{once, between, times, merged, longer, shorter}
+use Rattle.dy_turn.specs.Indices.{once, between, times, is_rising, merged, longer, shorter}
 
 -- 1 for a seat that waits with this ticket
 abbrev pub waits_with : ℕ → Stage → ℕ
@@ -46,6 +46,7 @@ module _ {T I : Type 0} where
   -- has seen. Each such index stands in the own of the seat that has all room.
   pub record OwnFits (known : Known T I) : Type 0 where
     pub started : start_of known.origin ≤ length known.saw
+    pub rising : is_rising known.own ≡ true
     pub few : known.parts ≤ seats_of known.origin
     pub within : (k : ℕ) → times k known.own ≤ between (start_of known.origin) (length known.saw) k
     pub all : known.parts ≡ seats_of known.origin → (k : ℕ) → times k known.own ≡ between (start_of known.origin) (length known.saw) k

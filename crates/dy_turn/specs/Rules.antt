@@ -1,5 +1,5 @@
 -- The rule of the table: what holds of its words, its slot and what all seats know, between any two steps.
-use Rattle.std.specs.Prelude.{◌≡◌, ℕ, ◌+◌, ◌%◌, ◌^◌, ◌<◌, ◌≤◌, Option, Some, List, [], ◌∷◌, length, sum_by}
+use Rattle.std.specs.Prelude.{◌≡◌, ℕ, ◌+◌, ◌%◌, ◌^◌, ◌<◌, ◌≤◌, true, Option, Some, List, [], ◌∷◌, length, sum_by}
 use mathlib.Core.Option.{some, none}
 use mathlib.Core.List.{IsPrefix}
 use lib.ListN.{get_elem?}
@@ -7,7 +7,7 @@ use Rattle.atomic_table.specs.Table.{State}
 use Rattle.dy_turn.specs.declared.known.Origin.{Origin}
 use Rattle.dy_turn.specs.declared.known.Stage.TheVariants.{Idle, Working}
 use Rattle.dy_turn.specs.declared.known.Known.{Known}
-use Rattle.dy_turn.specs.Indices.{between, times}
+use Rattle.dy_turn.specs.Indices.{between, times, is_rising}
 use Rattle.dy_turn.specs.Knowing.{waits_with, works_with, waits}
 
 module _ {T I : Type 0} where
@@ -17,6 +17,7 @@ module _ {T I : Type 0} where
     pub seen : IsPrefix known.saw log
     pub told : IsPrefix known.told known.saw
     pub started : origin.start ≤ length known.saw
+    pub rising : is_rising known.own ≡ true
     pub bound : (k : ℕ) → length known.saw ≤ k → times k known.own ≡ 0
     pub whole : (ticket : ℕ) → known.stage ≡ Working ticket → known.saw ≡ log
 

@@ -1,6 +1,6 @@
 -- What clauses say of turns and seats.
-use Rattle.std.specs.Prelude.{◌≡◌, ℕ, ◌+◌, ◌≤◌, Option, Some, None, List, [], ◌∷◌, length}
-use Rattle.dy_turn.specs.Indices.{between, times}
+use Rattle.std.specs.Prelude.{◌≡◌, ℕ, ◌+◌, ◌≤◌, true, Option, Some, None, List, [], ◌∷◌, length}
+use Rattle.dy_turn.specs.Indices.{between, times, is_rising}
 use Rattle.dy_turn.specs.declared.known.Stage.TheVariants.{Idle, Working}
 use Rattle.dy_turn.specs.declared.counted.Counted.{Ghosts}
 use Rattle.dy_turn.specs.declared.seats.Seat.{Seat}
@@ -48,8 +48,9 @@ module _ {T I : Type 0} {g : Ghosts T I} where
   abbrev pub HasAllRoom : Turn T I → Seat T I g → Type 0
   HasAllRoom turn seat = room seat + 1 ≡ seats turn
 
-  -- Each index that is the seat's own is one since the turn was made, the seat has seen it, and it stands there once. Of a seat that has all room
-  -- these are all indices since the turn was made.
+  -- The indices that are the seat's own stand in rising order, each of them once. Each is one since the turn was made, and the seat has seen it. Of a
+  -- seat that has all room these are all indices since the turn was made.
   pub record Owns (turn : Turn T I) (seat : Seat T I g) : Type 0 where
+    pub rising : is_rising (own seat) ≡ true
     pub only : (index : ℕ) → times index (own seat) ≤ between (start turn) (length (saw seat)) index
     pub all : HasAllRoom turn seat → (index : ℕ) → times index (own seat) ≡ between (start turn) (length (saw seat)) index
