@@ -1,9 +1,8 @@
 -- Drawing a ticket keeps the rule: the number of tickets drawn changes, and whose the new one is.
-use Rattle.std.proofs.Common.{◌≡◌, ◌≢◌, ℕ, ◌+◌, ◌%◌, ◌^◌, ◌<◌, ◌≤◌, List, [], ◌∷◌, length, set, refl, ap, sym, ◌∙◌, arith}
-use mathlib.Core.Option.{none, some}
-use lib.ListN.{get_elem?}
+use Rattle.std.proofs.Common.{◌≡◌, ℕ, ◌+◌, ◌%◌, ◌^◌, ◌<◌, ◌≤◌, List, [], ◌∷◌, length, refl, ap, ◌∙◌, arith}
+use mathlib.Core.Option.{none}
 use Rattle.std.specs.Prelude.{Option, slice_index, slice_set}
-use Rattle.atomic_table.specs.Table.{State, Me, Allows, step, stepped, keeps}
+use Rattle.atomic_table.specs.Table.{Me, Allows, step, keeps}
 use Rattle.dy_turn.specs.declared.known.Origin.{Origin}
 use Rattle.dy_turn.specs.declared.known.Stage.TheVariants.{Idle, Waiting}
 use Rattle.dy_turn.specs.declared.known.Known.{Known}
@@ -21,8 +20,7 @@ module _ {T I : Type 0} (history : T → List I) (same_base : T → T → Type 0
   draws slots id me idle some_parts s kept _ at _ =
       let v : Known T I = me.0 in
       let w : Known T I = staged v (Waiting kept.drawn) in
-      let line = kept.line in
-      (
+      let line = kept.line in (
         w,
         keeps,
         tt,
@@ -47,8 +45,7 @@ module _ {T I : Type 0} (history : T → List I) (same_base : T → T → Type 0
           rooms = omega (arith, sum_by-set_at (λ (u : Known T I). u.parts) s.views id v w at, kept.rooms);
           few = kept.few;
           each = each_changed (Fits origin kept.log) s.views id w
-              (let is = (kept.each id v at).0 some_parts in
-              (
+              (let is = (kept.each id v at).0 some_parts in (
                 (λ _. record { same = is.same; seen = is.seen; told = is.told; started = is.started; rising = is.rising; bound = is.bound; whole = λ ticket e. absurd (cc) }),
                 λ none. absurd (omega arith),
               ))

@@ -1,10 +1,8 @@
 -- Joining two seats keeps the rule: the one has what both had, the other is spent, and the rooms together stay.
-use Rattle.std.proofs.Common.{◌≡◌, ◌≢◌, ℕ, ◌+◌, ◌<◌, ◌≤◌, List, [], ◌∷◌, length, set, refl, ap, sym, ◌∙◌, subst, ⊎_elim, arith}
+use Rattle.std.proofs.Common.{◌≡◌, ◌≢◌, ℕ, ◌+◌, ◌<◌, ◌≤◌, List, length, set, refl, ap, sym, ◌∙◌, ⊎_elim, arith}
 use mathlib.Core.Option.{some}
 use lib.ListN.{get_elem?}
-use Rattle.std.specs.Prelude.{Option}
-use Rattle.std.specs.List.{sum_by}
-use Rattle.atomic_table.specs.Table.{State, Joins}
+use Rattle.atomic_table.specs.Table.{Joins}
 use Rattle.atomic_table.proofs.Lists.{at_set, set_else}
 use Rattle.dy_turn.specs.declared.known.Origin.{Origin}
 use Rattle.dy_turn.specs.declared.known.Stage.TheVariants.{Idle}
@@ -30,16 +28,15 @@ module _ {T I : Type 0} (history : T → List I) (same_base : T → T → Type 0
       let is = live s kept id v at positive in
       let theirs = live s kept other x before positive' in
       let apart_here : (k : ℕ) → times k v.own + times k x.own ≤ 1 = λ k.
-          omega
-              (
-                arith,
-                one_of (λ (u : Known T I). times k u.own) (set vs other none) id both (set_else vs other id none (λ e. apart (sym e)) ∙ at_changed s.views id v both at),
-                sum_by-set_at (λ (u : Known T I). times k u.own) s.views id v both at,
-                sum_by-set_at (λ (u : Known T I). times k u.own) vs other x none there,
-                times-merged k v.own x.own,
-                kept.owned k,
-                between-most origin.start (length kept.log) k,
-              ) in
+      omega (
+        arith,
+        one_of (λ (u : Known T I). times k u.own) (set vs other none) id both (set_else vs other id none (λ e. apart (sym e)) ∙ at_changed s.views id v both at),
+        sum_by-set_at (λ (u : Known T I). times k u.own) s.views id v both at,
+        sum_by-set_at (λ (u : Known T I). times k u.own) vs other x none there,
+        times-merged k v.own x.own,
+        kept.owned k,
+        between-most origin.start (length kept.log) k,
+      ) in
       let longer = longer_fits v.saw x.saw kept.log is.seen theirs.seen in
       record {
         log = kept.log;
@@ -63,18 +60,17 @@ module _ {T I : Type 0} (history : T → List I) (same_base : T → T → Type 0
         rooms = omega (arith, sum_by-set_at (λ (u : Known T I). u.parts) s.views id v both at, sum_by-set_at (λ (u : Known T I). u.parts) vs other x none there, kept.rooms);
         few = kept.few;
         each = each_changed (Fits origin kept.log) vs other none ((λ some_left. absurd (omega arith)), λ _. record { nothing = refl; idle = refl })
-            (λ j u _ here. each_changed (Fits origin kept.log) s.views id both
-                (
-                  (λ _. record {
-                    same = is.same;
-                    seen = longer.begins;
-                    told = longer.told;
-                    started = omega (arith, is.started, longer.first);
-                    rising = is_rising-merged v.own x.own is.rising theirs.rising apart_here;
-                    bound = λ k far. omega (arith, times-merged k v.own x.own, is.bound k (omega (arith, longer.first)), theirs.bound k (omega (arith, longer.second)));
-                    whole = λ ticket works. absurd (cc);
-                  }),
-                  λ none_left. absurd (omega arith),
-                )
-                (λ i y _ at'. kept.each i y at') j u here);
+            (λ j u _ here. each_changed (Fits origin kept.log) s.views id both (
+              (λ _. record {
+                same = is.same;
+                seen = longer.begins;
+                told = longer.told;
+                started = omega (arith, is.started, longer.first);
+                rising = is_rising-merged v.own x.own is.rising theirs.rising apart_here;
+                bound = λ k far. omega (arith, times-merged k v.own x.own, is.bound k (omega (arith, longer.first)), theirs.bound k (omega (arith, longer.second)));
+                whole = λ ticket works. absurd (cc);
+              }),
+              λ none_left. absurd (omega arith),
+            )
+            (λ i y _ at'. kept.each i y at') j u here);
       }

@@ -1,23 +1,22 @@
 -- Storing the length of a longer history keeps the rule: the history changes, what the seat has seen and what is its own.
-use Rattle.std.proofs.Common.{◌≡◌, ◌≢◌, ℕ, ◌+◌, ◌%◌, ◌^◌, ◌<◌, ◌≤◌, ◌==◌, if◌then◌else◌, List, [], ◌∷◌, ◌++◌, length, set, refl, ap, sym, ◌∙◌, subst, arith, length-append}
-use mathlib.Core.Option.{none, some}
+use Rattle.std.proofs.Common.{◌≡◌, ℕ, ◌+◌, ◌%◌, ◌^◌, ◌<◌, List, [], ◌∷◌, ◌++◌, length, set, refl, ap, sym, ◌∙◌, subst, arith, length-append}
+use mathlib.Core.Option.{none}
 use mathlib.Core.List.{IsPrefix}
-use lib.ListN.{get_elem?}
 use Rattle.std.specs.Prelude.{Option, slice_set}
 use Rattle.std.specs.List.{sum_by}
 use Rattle.std.proofs.lemmas.Bool.Decides.{nat_tests}
-use Rattle.atomic_table.specs.Table.{State, Me, Allows, step, stepped, keeps}
+use Rattle.atomic_table.specs.Table.{Me, Allows, step, stepped, keeps}
 use Rattle.dy_turn.specs.declared.known.Origin.{Origin}
-use Rattle.dy_turn.specs.declared.known.Stage.TheVariants.{Idle, Working}
+use Rattle.dy_turn.specs.declared.known.Stage.TheVariants.{Working}
 use Rattle.dy_turn.specs.declared.known.Known.{Known}
 use Rattle.dy_turn.specs.Indices.{once, times, between, GrowsByOne}
 use Rattle.dy_turn.specs.Knowing.{waits_with, works_with, waits, having_marked}
-use Rattle.dy_turn.specs.Rules.{IsTurned, IsLive, Fits}
+use Rattle.dy_turn.specs.Rules.{IsTurned, Fits}
 use Rattle.dy_turn.specs.Tellings.{Marks}
 use Rattle.dy_turn.proofs.Ranges.{times-push, enters_range}
 use Rattle.dy_turn.proofs.Rising.{is_rising-push}
 use Rattle.dy_turn.proofs.Sums.{sum_by-set_at}
-use Rattle.dy_turn.proofs.Prefixes.{prefix_self, prefix_trans, prefix_length}
+use Rattle.dy_turn.proofs.Prefixes.{prefix_self, prefix_trans}
 use Rattle.dy_turn.proofs.Fitting.{live, own_fits}
 use Rattle.dy_turn.proofs.Changing.{at_changed, each_changed, is_served_here, works_alone}
 
@@ -55,37 +54,35 @@ module _ {T I : Type 0} (history : T → List I) (same_base : T → T → Type 0
             let e : once (length v.saw) k ≡ once (length kept.log) k = ap (λ n. once n k) same in
             let pushed : times k (v.own ++ length v.saw ∷ []) ≡ times k v.own + once (length kept.log) k = times-push k (length v.saw) v.own ∙ ap (λ n. times k v.own + n) e in
             let step : sum_by (λ (u : Known T I). times k u.own) (set s.views id w) ≡ sum_by (λ (u : Known T I). times k u.own) s.views + once (length kept.log) k =
-                omega (arith, sum_by-set_at (λ (u : Known T I). times k u.own) s.views id v w at) in
+            omega (arith, sum_by-set_at (λ (u : Known T I). times k u.own) s.views id v w at) in
             enters_range origin.start (length kept.log) (length kept.log) k _ _ refl (omega (arith, is.started)) step (kept.owned k)
             ∙ ap (λ n. between origin.start n k) (omega arith);
         rooms = omega (arith, sum_by-set_at (λ (u : Known T I). u.parts) s.views id v w at, kept.rooms);
         few = kept.few;
-        each = each_changed (Fits origin log) s.views id w
-            (
-              (λ _. record {
-                same = is.same;
-                seen = prefix_self log;
-                told = prefix_trans v.told v.saw log is.told begins;
-                started = omega (arith, is.started);
-                rising = is_rising-push v.own (length v.saw) is.rising is.bound;
-                bound = λ k far. omega (arith, times-push k (length v.saw) v.own, is.bound k (omega arith), other_index (length v.saw) k (omega arith));
-                whole = λ _ _. refl;
-              }),
-              λ none. absurd (omega arith),
-            )
+        each = each_changed (Fits origin log) s.views id w (
+          (λ _. record {
+            same = is.same;
+            seen = prefix_self log;
+            told = prefix_trans v.told v.saw log is.told begins;
+            started = omega (arith, is.started);
+            rising = is_rising-push v.own (length v.saw) is.rising is.bound;
+            bound = λ k far. omega (arith, times-push k (length v.saw) v.own, is.bound k (omega arith), other_index (length v.saw) k (omega arith));
+            whole = λ _ _. refl;
+          }),
+          λ none. absurd (omega arith),
+        )
             (λ j u other there.
-                let fits = kept.each j u there in
-                (
-                  (λ positive. let theirs = fits.0 positive in record {
-                    same = theirs.same;
-                    seen = prefix_trans u.saw kept.log log theirs.seen begins';
-                    told = theirs.told;
-                    started = theirs.started;
-                    rising = theirs.rising;
-                    bound = theirs.bound;
-                    whole = λ t' works'. absurd (works_alone s kept id v t at works j u t' other there works');
-                  }),
-                  fits.1,
-                ));
+            let fits = kept.each j u there in (
+              (λ positive. let theirs = fits.0 positive in record {
+                same = theirs.same;
+                seen = prefix_trans u.saw kept.log log theirs.seen begins';
+                told = theirs.told;
+                started = theirs.started;
+                rising = theirs.rising;
+                bound = theirs.bound;
+                whole = λ t' works'. absurd (works_alone s kept id v t at works j u t' other there works');
+              }),
+              fits.1,
+            ));
       } in
       (w, keeps, tt, kept', (refl, own_fits (stepped s 0 count id me.1 w keeps) kept' id w (at_changed s.views id v w at) some_parts))

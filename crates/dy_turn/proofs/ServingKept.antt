@@ -1,5 +1,5 @@
 -- Looking which ticket is served keeps the rule: where it is the seat's own, who has the turn changes, and what that seat has seen.
-use Rattle.std.proofs.Common.{◌≡◌, ◌≢◌, ℕ, zero, suc, ◌+◌, ◌*◌, ◌%◌, ◌^◌, ◌<◌, ◌≤◌, ◌==◌, eqb, Bool, true, false, if◌then◌else◌, MatchBool, List, [], ◌∷◌, length, set, refl, ap, sym, ◌∙◌, subst, arith, eq-eqb, ne_eqb}
+use Rattle.std.proofs.Common.{◌≡◌, ℕ, ◌+◌, ◌%◌, ◌^◌, ◌<◌, ◌≤◌, Bool, MatchBool, List, ◌∷◌, length, set, refl, ap, sym, ◌∙◌, subst, arith, eq-eqb, ne_eqb}
 use mathlib.Core.Option.{none, some}
 use mathlib.Core.Logic.{dite}
 use mathlib.Core.List.{IsPrefix}
@@ -10,9 +10,9 @@ use Rattle.std.specs.List.{sum_by}
 use Rattle.atomic_table.specs.Table.{State, Me, Allows, step, Valid, stepped, keeps, takes}
 use Rattle.atomic_table.proofs.Lists.{one_turn, set_again}
 use Rattle.dy_turn.specs.declared.known.Origin.{Origin}
-use Rattle.dy_turn.specs.declared.known.Stage.TheVariants.{Idle, Waiting, Working}
+use Rattle.dy_turn.specs.declared.known.Stage.TheVariants.{Waiting, Working}
 use Rattle.dy_turn.specs.declared.known.Known.{Known}
-use Rattle.dy_turn.specs.Indices.{once, between, times}
+use Rattle.dy_turn.specs.Indices.{once, times}
 use Rattle.dy_turn.specs.Knowing.{waits_with, works_with, waits, ticket_of, staged, having_seen}
 use Rattle.dy_turn.specs.Rules.{IsTurned, Fits}
 use Rattle.dy_turn.specs.Tellings.{HasTurn, Serves}
@@ -20,7 +20,7 @@ use Rattle.dy_turn.proofs.Ranges.{between-some, leaves_range, enters_range}
 use Rattle.dy_turn.proofs.Sums.{one_of, sum_by-set_at}
 use Rattle.dy_turn.proofs.Prefixes.{prefix_self, prefix_trans, prefix_length}
 use Rattle.dy_turn.proofs.Fitting.{live, own_fits}
-use Rattle.dy_turn.proofs.Changing.{at_changed, each_changed, waits_with_mine, works_with_mine, few_wait, unmoved}
+use Rattle.dy_turn.proofs.Changing.{at_changed, each_changed, waits_with_mine, few_wait, unmoved}
 
 module _ {T I : Type 0} (history : T → List I) (same_base : T → T → Type 0) (origin : Origin T) (id : ℕ) (me : Me (Option T) (Known T I)) (some_parts : 0 < me.0.parts) where
   module _ (waits_here : me.0.stage ≡ Waiting (ticket_of me.0.stage)) (s : State (Option T) (Known T I)) (kept : IsTurned history same_base origin s) (at : get_elem? s.views id ≡ some me.0) where
@@ -45,8 +45,8 @@ module _ {T I : Type 0} (history : T → List I) (same_base : T → T → Type 0
     -- the seat whose ticket is served has the turn: the value is at home, and the seat sees the whole history
     hit : slice_index s.words 2 ≡ t % 2 ^ 64
         → (w : Known T I) × (value : T) × (Valid s.homes me.1 (takes 0 (Some value)))
-            × IsTurned history same_base origin (stepped s 2 (slice_index s.words 2) id me.1 w (takes 0 (Some value)))
-            × HasTurn history same_base me t (w, (0, Some value) ∷ me.1)
+        × IsTurned history same_base origin (stepped s 2 (slice_index s.words 2) id me.1 w (takes 0 (Some value)))
+        × HasTurn history same_base me t (w, (0, Some value) ∷ me.1)
     hit found =
         let served = is_served found in
         let line = in_line in
@@ -74,35 +74,33 @@ module _ {T I : Type 0} (history : T → List I) (same_base : T → T → Type 0
           waiting = λ k.
               let e : waits_with k v.stage ≡ once kept.served k = ap (waits_with k) waits_here ∙ ap (λ n. once n k) (sym served) in
               let step : sum_by (λ (u : Known T I). waits_with k u.stage) (set s.views id w) + once kept.served k ≡ sum_by (λ (u : Known T I). waits_with k u.stage) s.views =
-                  omega (arith, sum_by-set_at (λ (u : Known T I). waits_with k u.stage) s.views id v w at) in
+              omega (arith, sum_by-set_at (λ (u : Known T I). waits_with k u.stage) s.views id v w at) in
               leaves_range kept.served kept.open_from kept.drawn k _ _ here (omega arith) step (kept.waiting k);
           working = λ k.
               let e : works_with k v.stage ≡ 0 = ap (works_with k) waits_here in
               let e' : works_with k w.stage ≡ once kept.served k = ap (λ n. once n k) (sym served) in
               let step : sum_by (λ (u : Known T I). works_with k u.stage) (set s.views id w) ≡ sum_by (λ (u : Known T I). works_with k u.stage) s.views + once kept.served k =
-                  omega (arith, sum_by-set_at (λ (u : Known T I). works_with k u.stage) s.views id v w at) in
+              omega (arith, sum_by-set_at (λ (u : Known T I). works_with k u.stage) s.views id v w at) in
               enters_range kept.served kept.open_from kept.served k _ _ here (omega arith) step (kept.working k);
           home = λ none. absurd (omega arith);
           away = λ _. ap (λ hs. slice_set hs 0 none) home.1;
           owned = λ k. omega (arith, sum_by-set_at (λ (u : Known T I). times k u.own) s.views id v w at, kept.owned k);
           rooms = omega (arith, sum_by-set_at (λ (u : Known T I). u.parts) s.views id v w at, kept.rooms);
           few = kept.few;
-          each = each_changed (Fits origin kept.log) s.views id w
-              (
-                (λ _. record {
-                  same = is.same;
-                  seen = subst (λ xs. IsPrefix xs kept.log) (sym shown) (prefix_self kept.log);
-                  told = prefix_trans v.told v.saw (history value) is.told seen;
-                  started = omega (arith, is.started);
-                  rising = is.rising;
-                  bound = λ k far. is.bound k (omega arith);
-                  whole = λ _ _. shown;
-                }),
-                λ none. absurd (omega arith),
-              )
+          each = each_changed (Fits origin kept.log) s.views id w (
+            (λ _. record {
+              same = is.same;
+              seen = subst (λ xs. IsPrefix xs kept.log) (sym shown) (prefix_self kept.log);
+              told = prefix_trans v.told v.saw (history value) is.told seen;
+              started = omega (arith, is.started);
+              rising = is.rising;
+              bound = λ k far. is.bound k (omega arith);
+              whole = λ _ _. shown;
+            }),
+            λ none. absurd (omega arith),
+          )
               (λ j u _ there. kept.each j u there);
-        } in
-        (
+        } in (
           w,
           value,
           ap (λ hs. get_elem? hs 0) home.1,

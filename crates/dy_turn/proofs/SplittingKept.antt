@@ -1,13 +1,8 @@
 -- Splitting a seat keeps the rule: the new seat is one more, and the rooms together stay.
-use Rattle.std.proofs.Common.{◌≡◌, ◌≢◌, ℕ, ◌+◌, ◌-◌, ◌<◌, ◌≤◌, List, [], ◌∷◌, ◌++◌, length, set, refl, ap, sym, ◌∙◌, subst, ⊎_elim, arith}
-use mathlib.Core.Option.{some}
-use lib.ListN.{get_elem?}
-use Rattle.std.specs.Prelude.{Option}
-use Rattle.std.specs.List.{sum_by}
-use Rattle.atomic_table.specs.Table.{State, Splits}
+use Rattle.std.proofs.Common.{◌≡◌, ℕ, ◌<◌, List, set, refl, subst, ⊎_elim, arith}
+use Rattle.atomic_table.specs.Table.{Splits}
 use Rattle.atomic_table.proofs.Lists.{at_snoc}
 use Rattle.dy_turn.specs.declared.known.Origin.{Origin}
-use Rattle.dy_turn.specs.declared.known.Stage.TheVariants.{Idle}
 use Rattle.dy_turn.specs.declared.known.Known.{Known}
 use Rattle.dy_turn.specs.Indices.{times}
 use Rattle.dy_turn.specs.Knowing.{waits_with, works_with, waits, without, split_off}
@@ -39,16 +34,14 @@ module _ {T I : Type 0} (history : T → List I) (same_base : T → T → Type 0
         rooms = omega (arith, sum_by-set_at (λ (u : Known T I). u.parts) s.views id v left at, sum_by-more (λ (u : Known T I). u.parts) vs right, kept.rooms);
         few = kept.few;
         each = λ j u there. ⊎_elim
-            (λ old. each_changed (Fits origin kept.log) s.views id left
-                (
-                  (λ _. record { same = is.same; seen = is.seen; told = is.told; started = is.started; rising = is.rising; bound = is.bound; whole = is.whole }),
-                  λ none. absurd (omega arith),
-                )
-                (λ i x _ here. kept.each i x here) j u old)
-            (λ (new : right ≡ u). subst (Fits origin kept.log) new
-                (
-                  (λ _. record { same = is.same; seen = is.seen; told = (v.saw, refl); started = is.started; rising = refl; bound = λ k far. refl; whole = λ ticket e. absurd (cc) }),
-                  λ none. absurd (omega arith),
-                ))
+            (λ old. each_changed (Fits origin kept.log) s.views id left (
+              (λ _. record { same = is.same; seen = is.seen; told = is.told; started = is.started; rising = is.rising; bound = is.bound; whole = is.whole }),
+              λ none. absurd (omega arith),
+            )
+            (λ i x _ here. kept.each i x here) j u old)
+            (λ (new : right ≡ u). subst (Fits origin kept.log) new (
+              (λ _. record { same = is.same; seen = is.seen; told = (v.saw, refl); started = is.started; rising = refl; bound = λ k far. refl; whole = λ ticket e. absurd (cc) }),
+              λ none. absurd (omega arith),
+            ))
             (at_snoc vs right u j there);
       }

@@ -34,6 +34,7 @@ module _ {T I : Type 0} where
   IsHome history same_base first log homes =
       (value : T) × (homes ≡ some (Some value) ∷ []) × (history value ≡ log) × same_base first value
 
+  -- what holds between any two steps
   pub record IsTurned (history : T → List I) (same_base : T → T → Type 0) (origin : Origin T) (s : State (Option T) (Known T I)) : Type 0 where
     -- the history; the tickets drawn and served, without bound; the first ticket that still waits
     pub log : List I
@@ -51,3 +52,9 @@ module _ {T I : Type 0} where
     pub rooms : sum_by (λ v. v.parts) s.views ≡ origin.seats
     pub few : origin.seats ≤ 80
     pub each : (seat : ℕ) (known : Known T I) → get_elem? s.views seat ≡ some known → Fits origin log known
+
+  -- In no table that the rule allows do two seats have the turn.
+  abbrev pub OneWorks : (T → List I) → (T → T → Type 0) → Type 0
+  OneWorks history same_base =
+      (origin : Origin T) (s : State (Option T) (Known T I)) → IsTurned history same_base origin s
+      → (i j : ℕ) (v w : Known T I) (m n : ℕ) → get_elem? s.views i ≡ some v → get_elem? s.views j ≡ some w → v.stage ≡ Working m → w.stage ≡ Working n → i ≡ j

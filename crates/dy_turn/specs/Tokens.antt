@@ -3,7 +3,7 @@ use Rattle.std.specs.Prelude.{◌≡◌, ℕ, ◌<◌, Option, Some, List, [], �
 use Rattle.atomic_table.specs.Seated.{TableId}
 use Rattle.atomic_table.specs.declared.shared.Seat.{Seat}
 use Rattle.dy_turn.specs.declared.known.Origin.{Origin}
-use Rattle.dy_turn.specs.declared.known.Stage.TheVariants.{Idle, Waiting, Working}
+use Rattle.dy_turn.specs.declared.known.Stage.TheVariants.{Waiting, Working}
 use Rattle.dy_turn.specs.declared.known.Known.{Known}
 use Rattle.dy_turn.specs.Knowing.{ticket_of}
 

@@ -1,5 +1,5 @@
 -- What clauses say of turns and seats.
-use Rattle.std.specs.Prelude.{◌≡◌, ℕ, ◌+◌, ◌≤◌, true, Option, Some, None, List, [], ◌∷◌, length}
+use Rattle.std.specs.Prelude.{◌≡◌, ℕ, ◌+◌, ◌≤◌, true, Some, None, List, [], ◌∷◌, length}
 use Rattle.dy_turn.specs.Indices.{between, times, is_rising}
 use Rattle.dy_turn.specs.declared.known.Stage.TheVariants.{Idle, Working}
 use Rattle.dy_turn.specs.declared.counted.Counted.{Ghosts}

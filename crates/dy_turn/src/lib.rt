@@ -4,6 +4,7 @@
 mod closing;
 mod counted;
 mod known;
+mod laws;
 mod making;
 mod plays;
 mod rooms;
@@ -13,6 +14,10 @@ mod taking;
 mod turns;
 
 pub use counted::{Counted, Memory};
+pub use laws::one_seat_works;
 pub use making::make;
 pub use seats::{Full, Held, Seat};
 pub use turns::{NotWhole, Turn};
+
+#[cfg(test)]
+mod tests;

@@ -1,6 +1,6 @@
 //! How a turn is made.
 ghost use Rattle.std.specs.Prelude.{◌≡◌, ◌≤◌, ◌+◌, [], ◌∷◌, length, IfOk};
-ghost use Rattle.dy_turn.specs.Words.{first, start, seats as seats_of, IsOf, IsFree, saw, own, room};
+ghost use Rattle.dy_turn.specs.Words.{first, start, seats as seats_of, IsOf, IsFree, saw, own, room, Owns};
 
 use crate::counted::{Counted, Memory};
 use crate::known::Origin;
@@ -15,14 +15,25 @@ pub fn make<T: Counted>(alloc: Global, value: T, seats: u32) -> Result<(Turn<T>,
     requires { (1 ≤ seats) × (seats ≤ 80) }
     ensures turn { IfOk result (λ made. (first made.0 ≡ value) × (start made.0 ≡ length (T.history value)) × (seats_of made.0 ≡ seats)) }
     ensures seat { IfOk result (λ made. IsOf made.0 made.1 × IsFree made.1 × (saw made.1 ≡ T.history value) × (own made.1 ≡ []) × (room made.1 + 1 ≡ seats)) }
+    ensures owns { IfOk result (λ made. Owns made.0 made.1) }
 {
     let start = value.count();
-    let origin = Origin { first: Snapshot::of(&value), start, seats };
+    let origin = Origin {
+        first: Snapshot::of(&value),
+        start,
+        seats,
+    };
     let slots = one_slot(alloc, value)?;
     let Ok((board, token)) = Table::new(alloc, &[start, 0, 0], slots, &origin) else {
         return Err(Memory);
     };
-    Ok((Turn { board, seats }, Seat { token, room: seats - 1 }))
+    Ok((
+        Turn { board, seats },
+        Seat {
+            token,
+            room: seats - 1,
+        },
+    ))
 }
 
 fn one_slot<T: Drop>(alloc: Global, value: T) -> Result<Vec<Option<T>>, Memory>

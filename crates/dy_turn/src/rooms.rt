@@ -16,7 +16,7 @@ impl<T: Counted> Turn<T> {
         requires of { IsOf self.now seat.old }
         requires free { IsFree seat.old }
         ensures enough { IsOk result ↔ (room < room_of seat.old) }
-        ensures new { IfOk result (λ new. IsOf self.now new × IsFree new × (saw new ≡ saw seat.old) × (own new ≡ []) × (room_of new ≡ room)) }
+        ensures new { IfOk result (λ new. IsOf self.now new × IsFree new × (saw new ≡ saw seat.old) × (own new ≡ []) × (room_of new ≡ room) × Owns self.now new) }
         ensures rest { IfOk result (λ _. room_of seat.new + room + 1 ≡ room_of seat.old) }
         ensures full { IfErr result (λ full. full.left ≡ room_of seat.old) }
         ensures kept { OnErr result (room_of seat.new ≡ room_of seat.old) }

@@ -39,12 +39,7 @@ pub(crate) fn draw<T: Counted>(top: &Top<T>, token: &mut Token<T>) -> u64
 }
 
 /// Waits until the ticket is served, and takes the slot: who has the turn, and what that seat has seen.
-pub(crate) fn wait_for<T: Counted, R: Wait>(
-    rt: &R,
-    top: &Top<T>,
-    token: &mut Token<T>,
-    ticket: u64,
-)
+pub(crate) fn wait_for<T: Counted, R: Wait>(rt: &R, top: &Top<T>, token: &mut Token<T>, ticket: u64)
     requires on { StepsOn top.now.table_id token.old }
     requires waits { WaitsFor token.old × (ticket ≡ ticket_of token.old.me.0.stage % 2 ^ 64) }
     ensures same { IsSame token.old token.new }
@@ -124,11 +119,7 @@ pub(crate) fn look<T: Counted>(top: &Top<T>, token: &mut Token<T>)
 }
 
 /// Splits off a seat: the new seat, and how many parts are left.
-pub(crate) fn cut<T: Counted, N: Amount>(
-    top: &Top<T>,
-    token: &mut Token<T>,
-    room: u32,
-) -> Token<T>
+pub(crate) fn cut<T: Counted, N: Amount>(top: &Top<T>, token: &mut Token<T>, room: u32) -> Token<T>
     requires on { StepsOn top.now.table_id token.old }
     requires amount { N.amount ≡ room + 1 }
     requires less { room + 1 < token.old.me.0.parts }

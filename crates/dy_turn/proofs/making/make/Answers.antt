@@ -1,9 +1,6 @@
-use Rattle.std.proofs.Common.{rules, ap, sym, ◌∙◌, arith, ◌∷◌, [], ◌≡◌, ◌≤◌, length, List}
-use Rattle.std.specs.Prelude.{Option, Some}
+use Rattle.std.proofs.Common.{rules, ap, sym, ◌∙◌, arith, ◌∷◌, [], ◌≡◌, length}
+use Rattle.std.specs.Prelude.{Some}
 use Rattle.dy_turn.specs.declared.known.Origin.{Origin}
-use Rattle.dy_turn.specs.Rules.{IsTurned}
-use Rattle.dy_turn.specs.Knowing.{first_known}
-use Rattle.atomic_table.specs.Table.{opening}
 use Rattle.dy_turn.proofs.MakingKept.{begins}
 use Rattle.dy_turn.proofs.making.make.Goals as goal
 

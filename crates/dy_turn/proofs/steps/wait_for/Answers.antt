@@ -1,4 +1,4 @@
-use Rattle.std.proofs.Common.{rules, ◌≡◌, ◌<◌, ap, sym}
+use Rattle.std.proofs.Common.{rules, ◌≡◌, ◌<◌}
 use Rattle.dy_turn.specs.Knowing.{ticket_of}
 use Rattle.dy_turn.specs.declared.known.Stage.TheVariants.{Waiting}
 use Rattle.dy_turn.proofs.ServingKept.{serves}
