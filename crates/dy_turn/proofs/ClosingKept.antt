@@ -8,9 +8,9 @@ use Rattle.atomic_table.specs.Table.{State, Final, Seen}
 use Rattle.dy_turn.specs.declared.known.Origin.{Origin}
 use Rattle.dy_turn.specs.declared.known.Stage.TheVariants.{Idle}
 use Rattle.dy_turn.specs.declared.known.Known.{Known}
-use Rattle.dy_turn.specs.Knowing.{works_with}
-use Rattle.dy_turn.specs.Rules.{IsTurned, IsLive}
-use Rattle.dy_turn.proofs.Ranges.{between-in}
+use Rattle.dy_turn.specs.Views.{one_if_working_with, workers_with, parts}
+use Rattle.dy_turn.specs.Rule.{IsTurned, IsLive}
+use Rattle.dy_turn.proofs.Ranges.{one_if_between-in}
 use Rattle.dy_turn.proofs.Sums.{sum_by-alone}
 use Rattle.dy_turn.proofs.Prefixes.{prefix_whole}
 use Rattle.dy_turn.proofs.Fitting.{live, owns_all}
@@ -27,18 +27,18 @@ module _ {T I : Type 0} (history : T → List I) (same_base : T → T → Type 0
         by_length (yes le) = le
         by_length (no more) =
             let k : ℕ = length v.saw in
-            omega (arith, owns_all s kept id v at some_parts whole k, is.bound k (omega arith), between-in origin.start (length kept.log) k is.started (lt_of_not-le more))
+            omega (arith, owns_all s kept id v at some_parts whole k, is.bound k (omega arith), one_if_between-in origin.start (length kept.log) k is.started (lt_of_not-le more))
 
-    nobody_works : v.stage ≡ Idle → kept.open_from ≡ kept.served
-    nobody_works idle = by_order (dec_le kept.open_from kept.served)
+    nobody_works : v.stage ≡ Idle → kept.next ≡ kept.served
+    nobody_works idle = by_order (dec_le kept.next kept.served)
       where
-        by_order : Dec (kept.open_from ≤ kept.served) → kept.open_from ≡ kept.served
-        by_order (yes le) = let next = kept.served_next in omega arith
+        by_order : Dec (kept.next ≤ kept.served) → kept.next ≡ kept.served
+        by_order (yes le) = let next = kept.order in omega arith
         by_order (no more) =
             let k : ℕ = kept.served in
-            let alone = sum_by-alone (λ (u : Known T I). works_with k u.stage) (λ (u : Known T I). u.parts) s.views id v at (λ j u here none. ap (works_with k) ((kept.each j u here).1 none).idle) (kept.rooms ∙ sym whole) in
-            let mine : works_with k v.stage ≡ 0 = ap (works_with k) idle in
-            absurd (omega (arith, kept.working k, between-in kept.served kept.open_from k (omega arith) (lt_of_not-le more)))
+            let alone = sum_by-alone (workers_with k) parts s.views id v at (λ j u here none. ap (one_if_working_with k) ((kept.each j u here).1 none).idle) (kept.rooms ∙ sym whole) in
+            let mine : one_if_working_with k v.stage ≡ 0 = ap (one_if_working_with k) idle in
+            absurd (omega (arith, kept.working k, one_if_between-in kept.served kept.next k (omega arith) (lt_of_not-le more)))
 
   -- what lies in the slot at the end
   pub record Ends (slot : Option T) (v : Known T I) : Type 0 where

@@ -6,8 +6,8 @@ use Rattle.atomic_table.specs.Table.{Me, Allows, step, keeps}
 use Rattle.atomic_table.proofs.Lists.{set_again}
 use Rattle.dy_turn.specs.declared.known.Origin.{Origin}
 use Rattle.dy_turn.specs.declared.known.Known.{Known}
-use Rattle.dy_turn.specs.Rules.{IsTurned}
-use Rattle.dy_turn.specs.Tellings.{Looks}
+use Rattle.dy_turn.specs.Rule.{IsTurned}
+use Rattle.dy_turn.specs.Steps.{Looks}
 use Rattle.dy_turn.proofs.Fitting.{live, own_fits}
 use Rattle.dy_turn.proofs.Changing.{unmoved}
 

@@ -6,14 +6,15 @@ use Rattle.std.specs.Prelude.{Option, Some}
 use Rattle.atomic_table.specs.Table.{State, opening}
 use Rattle.dy_turn.specs.declared.known.Origin.{Origin}
 use Rattle.dy_turn.specs.declared.known.Known.{Known}
-use Rattle.dy_turn.specs.Knowing.{first_known}
-use Rattle.dy_turn.specs.Rules.{IsTurned, Fits}
-use Rattle.dy_turn.proofs.Ranges.{between-none}
+use Rattle.dy_turn.specs.Indices.{one_if_between}
+use Rattle.dy_turn.specs.Views.{first_seat}
+use Rattle.dy_turn.specs.Rule.{IsTurned, Fits}
+use Rattle.dy_turn.proofs.Ranges.{one_if_between-none}
 use Rattle.dy_turn.proofs.Prefixes.{prefix_self}
 
 module _ {T I : Type 0} (history : T → List I) (same_base : T → T → Type 0) where
   abbrev Start : Origin T → State (Option T) (Known T I)
-  Start origin = opening (origin.start ∷ 0 ∷ 0 ∷ []) (Some origin.first.value ∷ []) (first_known (history origin.first.value) origin)
+  Start origin = opening (origin.start ∷ 0 ∷ 0 ∷ []) (Some origin.first.value ∷ []) (first_seat (history origin.first.value) origin)
 
   pub begins : (origin : Origin T) → origin.start ≡ length (history origin.first.value) → 1 ≤ origin.seats → origin.seats ≤ 80 → same_base origin.first.value origin.first.value
       → IsTurned history same_base origin (Start origin)
@@ -23,21 +24,21 @@ module _ {T I : Type 0} (history : T → List I) (same_base : T → T → Type 0
         log = log;
         drawn = 0;
         served = 0;
-        open_from = 0;
+        next = 0;
         words = ap (λ n. n ∷ 0 ∷ 0 ∷ []) start;
-        served_next = (omega arith, omega arith);
+        order = (omega arith, omega arith);
         line = refl;
-        waiting = λ k. sym (between-none 0 k);
-        working = λ k. sym (between-none 0 k);
+        waiting = λ k. sym (one_if_between-none 0 k);
+        working = λ k. sym (one_if_between-none 0 k);
         home = λ _. (origin.first.value, refl, refl, based);
         away = λ far. absurd (omega arith);
-        owned = λ k. sym (ap (λ n. Rattle.dy_turn.specs.Indices.between origin.start n k) (sym start) ∙ between-none origin.start k);
+        owned = λ k. sym (ap (λ n. one_if_between origin.start n k) (sym start) ∙ one_if_between-none origin.start k);
         rooms = omega arith;
         few = few;
         each = each;
       }
     where
-      one : Fits origin (history origin.first.value) (first_known (history origin.first.value) origin)
+      one : Fits origin (history origin.first.value) (first_seat (history origin.first.value) origin)
       one = (
         (λ _. record {
           same = refl;
@@ -51,6 +52,6 @@ module _ {T I : Type 0} (history : T → List I) (same_base : T → T → Type 0
         λ none. absurd (omega arith),
       )
 
-      each : (seat : ℕ) (known : Known T I) → get_elem? (first_known (history origin.first.value) origin ∷ []) seat ≡ some known → Fits origin (history origin.first.value) known
+      each : (seat : ℕ) (known : Known T I) → get_elem? (first_seat (history origin.first.value) origin ∷ []) seat ≡ some known → Fits origin (history origin.first.value) known
       each zero known at = subst (Fits origin (history origin.first.value)) (some-injective _ _ at) one
       each (suc seat) known at = absurd (some-ne-none known (sym at))

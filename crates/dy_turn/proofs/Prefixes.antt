@@ -3,7 +3,7 @@ use Rattle.std.proofs.Common.{◌≡◌, ◌≤◌, List, [], ◌∷◌, ◌++�
 use mathlib.Core.List.{IsPrefix}
 use Rattle.std.specs.Prelude.{Bool, true, false, nat_lt, ◌<◌, if◌then◌else◌}
 use Rattle.std.proofs.lemmas.Bool.Decides.{nat_tests}
-use Rattle.dy_turn.specs.Indices.{longer, shorter}
+use Rattle.dy_turn.specs.Histories.{longer_of, shorter_of}
 
 module _ {A : Type 0} where
   pub prefix_self : (xs : List A) → IsPrefix xs xs
@@ -36,10 +36,10 @@ module _ {A : Type 0} where
 
   -- the longer of two prefixes of one list
   pub record LongerFits (xs ys zs : List A) : Type 0 where
-    pub begins : IsPrefix (longer xs ys) zs
-    pub told : IsPrefix (shorter xs ys) (longer xs ys)
-    pub first : length xs ≤ length (longer xs ys)
-    pub second : length ys ≤ length (longer xs ys)
+    pub begins : IsPrefix (longer_of xs ys) zs
+    pub told : IsPrefix (shorter_of xs ys) (longer_of xs ys)
+    pub first : length xs ≤ length (longer_of xs ys)
+    pub second : length ys ≤ length (longer_of xs ys)
 
   pub longer_fits : (xs ys zs : List A) → IsPrefix xs zs → IsPrefix ys zs → LongerFits xs ys zs
   longer_fits xs ys zs p q =
@@ -51,7 +51,7 @@ module _ {A : Type 0} where
       at false is = let more : length ys ≤ length xs = grind (arith, nat_tests) in (p, prefix_shorter ys xs zs q p more, omega arith, omega arith)
 
   -- where the shorter of two lists begins the longer, both begin it
-  pub both_begin : (xs ys : List A) → IsPrefix (shorter xs ys) (longer xs ys) → IsPrefix xs (longer xs ys) × IsPrefix ys (longer xs ys)
+  pub both_begin : (xs ys : List A) → IsPrefix (shorter_of xs ys) (longer_of xs ys) → IsPrefix xs (longer_of xs ys) × IsPrefix ys (longer_of xs ys)
   both_begin xs ys told = at (nat_lt (length xs) (length ys)) told
     where
       at : (b : Bool) → IsPrefix (if b then xs else ys) (if b then ys else xs) → IsPrefix xs (if b then ys else xs) × IsPrefix ys (if b then ys else xs)

@@ -2,61 +2,61 @@
 use Rattle.std.proofs.Common.{◌≡◌, ℕ, ◌+◌, ◌<◌, ◌≤◌, Bool, true, false, if◌then◌else◌, List, [], ◌∷◌, ◌++◌, refl, ap, arith}
 use Rattle.std.specs.Prelude.{nat_lt}
 use Rattle.std.proofs.lemmas.Bool.Decides.{nat_tests}
-use Rattle.dy_turn.specs.Indices.{once, between, times, inserted, merged}
+use Rattle.dy_turn.specs.Indices.{one_if_same, one_if_between, times, with_index, union_of}
 
-pub between-none : (a k : ℕ) → between a a k ≡ 0
-between-none a k = grind (arith, nat_tests)
+pub one_if_between-none : (a k : ℕ) → one_if_between a a k ≡ 0
+one_if_between-none a k = grind (arith, nat_tests)
 
-pub between-in : (a b k : ℕ) → a ≤ k → k < b → between a b k ≡ 1
-between-in a b k from to = grind (arith, nat_tests)
+pub one_if_between-in : (a b k : ℕ) → a ≤ k → k < b → one_if_between a b k ≡ 1
+one_if_between-in a b k from to = grind (arith, nat_tests)
 
-pub between-beyond : (a b k : ℕ) → b ≤ k → between a b k ≡ 0
-between-beyond a b k to = grind (arith, nat_tests)
+pub one_if_between-beyond : (a b k : ℕ) → b ≤ k → one_if_between a b k ≡ 0
+one_if_between-beyond a b k to = grind (arith, nat_tests)
 
 -- where it is not 0, the index lies in the range
-pub between-some : (a b k : ℕ) → 0 < between a b k → (a ≤ k) × (k < b)
-between-some a b k some = (grind (arith, nat_tests), grind (arith, nat_tests))
+pub one_if_between-some : (a b k : ℕ) → 0 < one_if_between a b k → (a ≤ k) × (k < b)
+one_if_between-some a b k some = (grind (arith, nat_tests), grind (arith, nat_tests))
 
-pub between-next : (a b k : ℕ) → a ≤ b → between a (b + 1) k ≡ between a b k + once b k
-between-next a b k le = grind (arith, nat_tests)
+pub one_if_between-next : (a b k : ℕ) → a ≤ b → one_if_between a (b + 1) k ≡ one_if_between a b k + one_if_same b k
+one_if_between-next a b k le = grind (arith, nat_tests)
 
-pub between-rest : (a b k : ℕ) → a < b → between (a + 1) b k + once a k ≡ between a b k
-between-rest a b k le = grind (arith, nat_tests)
+pub one_if_between-rest : (a b k : ℕ) → a < b → one_if_between (a + 1) b k + one_if_same a k ≡ one_if_between a b k
+one_if_between-rest a b k le = grind (arith, nat_tests)
 
 -- the first index of a range leaves it
-pub leaves_range : (first from to k now was : ℕ) → from ≡ first → first < to → now + once first k ≡ was → was ≡ between from to k → now ≡ between (first + 1) to k
+pub leaves_range : (first from to k now was : ℕ) → from ≡ first → first < to → now + one_if_same first k ≡ was → was ≡ one_if_between from to k → now ≡ one_if_between (first + 1) to k
 leaves_range first from to k now was is some step sum =
-    let rest = between-rest first to k some in
-    let e : between from to k ≡ between first to k = ap (λ n. between n to k) is in
+    let rest = one_if_between-rest first to k some in
+    let e : one_if_between from to k ≡ one_if_between first to k = ap (λ n. one_if_between n to k) is in
     omega arith
 
 -- the index after a range enters it
-pub enters_range : (from to last k now was : ℕ) → to ≡ last → from ≤ last → now ≡ was + once last k → was ≡ between from to k → now ≡ between from (last + 1) k
+pub enters_range : (from to last k now was : ℕ) → to ≡ last → from ≤ last → now ≡ was + one_if_same last k → was ≡ one_if_between from to k → now ≡ one_if_between from (last + 1) k
 enters_range from to last k now was is some step sum =
-    let next = between-next from last k some in
-    let e : between from to k ≡ between from last k = ap (λ n. between from n k) is in
+    let next = one_if_between-next from last k some in
+    let e : one_if_between from to k ≡ one_if_between from last k = ap (λ n. one_if_between from n k) is in
     omega arith
 
 -- below both ends, the ends do not matter
-pub between-same : (a b c k : ℕ) → k < b → k < c → between a b k ≡ between a c k
-between-same a b c k h i = grind (arith, nat_tests)
+pub one_if_between-same : (a b c k : ℕ) → k < b → k < c → one_if_between a b k ≡ one_if_between a c k
+one_if_between-same a b c k h i = grind (arith, nat_tests)
 
-pub times-push : (k x : ℕ) (xs : List ℕ) → times k (xs ++ x ∷ []) ≡ times k xs + once x k
+pub times-push : (k x : ℕ) (xs : List ℕ) → times k (xs ++ x ∷ []) ≡ times k xs + one_if_same x k
 times-push k x [] = omega arith
 times-push k x (y ∷ ys) = omega (arith, times-push k x ys)
 
-pub times-inserted : (k x : ℕ) (xs : List ℕ) → times k (inserted x xs) ≡ once x k + times k xs
-times-inserted k x [] = refl
-times-inserted k x (y ∷ ys) = at (nat_lt y x) (times-inserted k x ys)
+pub times-with_index : (k x : ℕ) (xs : List ℕ) → times k (with_index x xs) ≡ one_if_same x k + times k xs
+times-with_index k x [] = refl
+times-with_index k x (y ∷ ys) = at (nat_lt y x) (times-with_index k x ys)
   where
-    at : (b : Bool) → times k (inserted x ys) ≡ once x k + times k ys
-        → times k (if b then y ∷ inserted x ys else x ∷ y ∷ ys) ≡ once x k + times k (y ∷ ys)
+    at : (b : Bool) → times k (with_index x ys) ≡ one_if_same x k + times k ys
+        → times k (if b then y ∷ with_index x ys else x ∷ y ∷ ys) ≡ one_if_same x k + times k (y ∷ ys)
     at true r = omega arith
     at false r = refl
 
-pub times-merged : (k : ℕ) (xs ys : List ℕ) → times k (merged xs ys) ≡ times k xs + times k ys
-times-merged k [] ys = omega arith
-times-merged k (x ∷ xs) ys = omega (arith, times-inserted k x (merged xs ys), times-merged k xs ys)
+pub times-union_of : (k : ℕ) (xs ys : List ℕ) → times k (union_of xs ys) ≡ times k xs + times k ys
+times-union_of k [] ys = omega arith
+times-union_of k (x ∷ xs) ys = omega (arith, times-with_index k x (union_of xs ys), times-union_of k xs ys)
 
-pub between-most : (a b k : ℕ) → between a b k ≤ 1
-between-most a b k = grind (arith, nat_tests)
+pub one_if_between-most : (a b k : ℕ) → one_if_between a b k ≤ 1
+one_if_between-most a b k = grind (arith, nat_tests)

@@ -1,6 +1,7 @@
+pub mod Histories
 pub mod Indices
-pub mod Knowing
-pub mod Rules
-pub mod Tellings
+pub mod Views
+pub mod Rule
+pub mod Steps
 pub mod Tokens
-pub mod Words
+pub mod Seats

@@ -5,7 +5,7 @@ use Rattle.atomic_table.specs.declared.shared.Seat.{Seat}
 use Rattle.dy_turn.specs.declared.known.Origin.{Origin}
 use Rattle.dy_turn.specs.declared.known.Stage.TheVariants.{Waiting, Working}
 use Rattle.dy_turn.specs.declared.known.Known.{Known}
-use Rattle.dy_turn.specs.Knowing.{ticket_of}
+use Rattle.dy_turn.specs.Views.{ticket_of}
 
 -- three words and one slot
 abbrev pub IsSized : TableId → Type 0

@@ -1,7 +1,7 @@
 //! How a turn ends.
 ghost use Rattle.std.specs.Prelude.{◌≡◌, ◌↔◌, ◌<◌, IsOk, IfOk, IfErr};
 ghost use Rattle.dy_turn.specs.declared.known.Stage.TheVariants.{Idle};
-ghost use Rattle.dy_turn.specs.Words.{first, saw, IsOf, IsFree, HasAllRoom, Owns};
+ghost use Rattle.dy_turn.specs.Seats.{first_value, saw, IsOf, IsFree, HasAllRoom, Owns};
 ghost use Rattle.dy_turn.specs.Tokens.{StepsOn};
 
 use crate::counted::Counted;
@@ -11,12 +11,13 @@ use crate::steps::Token;
 use crate::turns::{NotWhole, Turn};
 
 impl<T: Counted> Turn<T> {
-    /// Gives the value back where all other seats were joined to this one. Else both are handed back.
+    /// Gives the value back with the whole history. `NotWhole` comes exactly where a seat was made and not joined, and
+    /// hands both back.
     pub fn close(self, seat: Seat<T>) -> Result<T, NotWhole<T>>
         requires of { IsOf self seat }
         requires free { IsFree seat }
         ensures whole { IsOk result ↔ HasAllRoom self seat }
-        ensures value { IfOk result (λ value. (T.history value ≡ saw seat) × T.same_base (first self) value) }
+        ensures value { IfOk result (λ value. (T.history value ≡ saw seat) × T.same_base (first_value self) value) }
         ensures owns { Owns self seat }
         ensures back { IfErr result (λ refused. (refused.turn ≡ self) × (refused.seat ≡ seat)) }
     {

@@ -1,5 +1,6 @@
 //! What seats know, and the rule of the table that they share.
-//! Word 0 is how many items the history has, word 1 the tickets drawn and word 2 those served, each modulo 2^64. The one slot has the value.
+//! Word 0 is how many items the history has, word 1 how many tickets were drawn and word 2 how many were served, both
+//! modulo 2^64. The one slot has the value.
 use crate::counted::Counted;
 use atomic_table::{Table, TableRule};
 use std::alloc::Global;
@@ -39,12 +40,12 @@ pub struct Known<T, I> {
 pub struct TurnRule;
 
 impl<T: Counted> TableRule<Option<T>, Known<T, T::Item>, Origin<T>> for TurnRule {
-    ghost use Rattle.dy_turn.specs.Rules.{IsTurned};
-    ghost use Rattle.dy_turn.specs.Knowing.{first_known};
+    ghost use Rattle.dy_turn.specs.Rule.{IsTurned};
+    ghost use Rattle.dy_turn.specs.Views.{first_seat};
 
     ghost holds = { λ origin. IsTurned T.history T.same_base origin };
 
-    ghost first = { λ origin. first_known (T.history origin.first.value) origin };
+    ghost first = { λ origin. first_seat (T.history origin.first.value) origin };
 }
 
 pub type Board<T> = Table<Option<T>, Known<T, <T as Counted>::Item>, Origin<T>, TurnRule, Global>;

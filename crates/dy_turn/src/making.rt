@@ -1,6 +1,6 @@
 //! How a turn is made.
-ghost use Rattle.std.specs.Prelude.{◌≡◌, ◌≤◌, ◌+◌, [], ◌∷◌, length, IfOk};
-ghost use Rattle.dy_turn.specs.Words.{first, start, seats as seats_of, IsOf, IsFree, saw, own, room, Owns};
+ghost use Rattle.std.specs.Prelude.{◌≡◌, ◌≤◌, ◌-◌, [], ◌∷◌, length, IfOk};
+ghost use Rattle.dy_turn.specs.Seats.{first_value, start, seats as seats_of, IsNew, Owns};
 
 use crate::counted::{Counted, Memory};
 use crate::known::Origin;
@@ -10,11 +10,13 @@ use atomic_table::Table;
 use std::alloc::Global;
 use std::snapshot::Snapshot;
 
-/// Makes a turn of a value for 1 to 80 seats, and its first seat.
+/// Makes a turn of a value for 1 to 80 seats, and its first seat, which has room for all others.
 pub fn make<T: Counted>(alloc: Global, value: T, seats: u32) -> Result<(Turn<T>, Seat<T>), Memory>
     requires { (1 ≤ seats) × (seats ≤ 80) }
-    ensures turn { IfOk result (λ made. (first made.0 ≡ value) × (start made.0 ≡ length (T.history value)) × (seats_of made.0 ≡ seats)) }
-    ensures seat { IfOk result (λ made. IsOf made.0 made.1 × IsFree made.1 × (saw made.1 ≡ T.history value) × (own made.1 ≡ []) × (room made.1 + 1 ≡ seats)) }
+    ensures value { IfOk result (λ made. first_value made.0 ≡ value) }
+    ensures start { IfOk result (λ made. start made.0 ≡ length (T.history value)) }
+    ensures seats { IfOk result (λ made. seats_of made.0 ≡ seats) }
+    ensures seat { IfOk result (λ made. IsNew made.0 made.1 (T.history value) (seats - 1)) }
     ensures owns { IfOk result (λ made. Owns made.0 made.1) }
 {
     let start = value.count();

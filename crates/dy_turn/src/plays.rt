@@ -8,7 +8,7 @@ use std::marker::{Brand, PhantomData};
 pub(crate) struct Draw;
 
 impl<T, I> Play<Option<T>, Known<T, I>> for Draw {
-    ghost use Rattle.dy_turn.specs.Tellings.{Draws};
+    ghost use Rattle.dy_turn.specs.Steps.{Draws};
 
     ghost then = { Draws };
 }
@@ -17,7 +17,7 @@ impl<T, I> Play<Option<T>, Known<T, I>> for Draw {
 pub(crate) struct Serve;
 
 impl<T: Counted> Play<Option<T>, Known<T, T::Item>> for Serve {
-    ghost use Rattle.dy_turn.specs.Tellings.{Serves};
+    ghost use Rattle.dy_turn.specs.Steps.{Serves};
 
     ghost then = { Serves T.history T.same_base };
 }
@@ -41,7 +41,7 @@ pub(crate) struct Mark<L> {
 }
 
 impl<T, I, L: Appended<I>> Play<Option<T>, Known<T, I>> for Mark<L> {
-    ghost use Rattle.dy_turn.specs.Tellings.{Marks};
+    ghost use Rattle.dy_turn.specs.Steps.{Marks};
 
     ghost then = { Marks L.log };
 }
@@ -50,7 +50,7 @@ impl<T, I, L: Appended<I>> Play<Option<T>, Known<T, I>> for Mark<L> {
 pub(crate) struct Release;
 
 impl<T, I> Play<Option<T>, Known<T, I>> for Release {
-    ghost use Rattle.dy_turn.specs.Tellings.{Releases};
+    ghost use Rattle.dy_turn.specs.Steps.{Releases};
 
     ghost then = { Releases };
 }
@@ -59,7 +59,7 @@ impl<T, I> Play<Option<T>, Known<T, I>> for Release {
 pub(crate) struct Look;
 
 impl<T, I> Play<Option<T>, Known<T, I>> for Look {
-    ghost use Rattle.dy_turn.specs.Tellings.{Looks};
+    ghost use Rattle.dy_turn.specs.Steps.{Looks};
 
     ghost then = { Looks };
 }
@@ -81,20 +81,20 @@ pub(crate) struct Cut<N> {
 }
 
 impl<T, I, N: Amount> Split<Known<T, I>> for Cut<N> {
-    ghost use Rattle.dy_turn.specs.Knowing.{without, split_off};
+    ghost use Rattle.dy_turn.specs.Views.{rest_of, new_seat};
 
-    ghost left = { without N.amount };
+    ghost left = { rest_of N.amount };
 
-    ghost right = { split_off N.amount };
+    ghost right = { new_seat N.amount };
 }
 
 /// How two seats are joined.
 pub(crate) struct Glue;
 
 impl<T, I> Join<Known<T, I>> for Glue {
-    ghost use Rattle.dy_turn.specs.Knowing.{joined, spent as spent_seat};
+    ghost use Rattle.dy_turn.specs.Views.{both_seats, spent_seat};
 
-    ghost both = { joined };
+    ghost both = { both_seats };
 
     ghost spent = { spent_seat };
 }

@@ -1,8 +1,9 @@
 //! How a seat is split in two, and how two are joined.
-ghost use Rattle.std.specs.Prelude.{◌≡◌, ℕ, ◌+◌, ◌<◌, ◌≤◌, ◌↔◌, [], IsOk, IfOk, IfErr, OnErr};
+ghost use Rattle.std.specs.Prelude.{◌≡◌, ℕ, ◌+◌, ◌<◌, ◌≤◌, ◌↔◌, IsOk, IfOk, IfErr, OnErr};
 ghost use mathlib.Core.List.{IsPrefix};
-ghost use Rattle.dy_turn.specs.Indices.{times, merged, longer};
-ghost use Rattle.dy_turn.specs.Words.{saw, own, room as room_of, IsOf, IsFree, Owns};
+ghost use Rattle.dy_turn.specs.Histories.{longer_of};
+ghost use Rattle.dy_turn.specs.Indices.{times, union_of};
+ghost use Rattle.dy_turn.specs.Seats.{saw, own, room as room_of, IsOf, IsFree, IsNew, Owns};
 
 use crate::counted::Counted;
 use crate::seats::{Full, Seat};
@@ -11,12 +12,13 @@ use crate::turns::Turn;
 use std::marker::Brand;
 
 impl<T: Counted> Turn<T> {
-    /// Makes a seat with this room out of the room of another. `Full` comes where the room is not enough, and says how much is left.
+    /// Makes a seat with this room out of a seat with more room, of which as much and one more is taken. It takes no memory.
+    /// `Full` comes exactly where the seat's room is not above the room asked for, and has the room that is left.
     pub fn split(&self, seat: &mut Seat<T>, room: u32) -> Result<Seat<T>, Full>
         requires of { IsOf self.now seat.old }
         requires free { IsFree seat.old }
         ensures enough { IsOk result ↔ (room < room_of seat.old) }
-        ensures new { IfOk result (λ new. IsOf self.now new × IsFree new × (saw new ≡ saw seat.old) × (own new ≡ []) × (room_of new ≡ room) × Owns self.now new) }
+        ensures new { IfOk result (λ new. IsNew self.now new (saw seat.old) room × Owns self.now new) }
         ensures rest { IfOk result (λ _. room_of seat.new + room + 1 ≡ room_of seat.old) }
         ensures full { IfErr result (λ full. full.left ≡ room_of seat.old) }
         ensures kept { OnErr result (room_of seat.new ≡ room_of seat.old) }
@@ -33,14 +35,15 @@ impl<T: Counted> Turn<T> {
         Ok(Seat { token, room })
     }
 
-    /// Joins another seat to a seat, which has then seen the longer of what the two had seen, and has what was each one's own.
+    /// Joins another seat to a seat, which has then seen what either had seen. What was either's own is its own, and it has
+    /// the room of both and one more. It takes no memory.
     pub fn join(&self, seat: &mut Seat<T>, other: Seat<T>)
         requires of { IsOf self.now seat.old × IsOf self.now other }
         requires free { IsFree seat.old × IsFree other }
         ensures of { IsOf self.now seat.new × IsFree seat.new }
-        ensures longer { saw seat.new ≡ longer (saw seat.old) (saw other) }
+        ensures longer { saw seat.new ≡ longer_of (saw seat.old) (saw other) }
         ensures begins { IsPrefix (saw seat.old) (saw seat.new) × IsPrefix (saw other) (saw seat.new) }
-        ensures own { own seat.new ≡ merged (own seat.old) (own other) }
+        ensures own { own seat.new ≡ union_of (own seat.old) (own other) }
         ensures apart { (index : ℕ) → times index (own seat.old) + times index (own other) ≤ 1 }
         ensures owns { Owns self.now seat.new }
         ensures room { room_of seat.new ≡ room_of seat.old + room_of other + 1 }

@@ -2,9 +2,9 @@
 ghost use Rattle.std.specs.Prelude.{◌≡◌, ℕ, ◌+◌, ◌-◌, ◌%◌, ◌^◌, ◌<◌, [], ◌∷◌};
 ghost use mathlib.Core.List.{IsPrefix};
 ghost use Rattle.dy_turn.specs.declared.known.Stage.TheVariants.{Idle, Waiting};
-ghost use Rattle.dy_turn.specs.Indices.{GrowsByOne};
-ghost use Rattle.dy_turn.specs.Knowing.{OwnFits, ticket_of, staged, having_marked, without, split_off, joined};
-ghost use Rattle.dy_turn.specs.Tellings.{HasTurn};
+ghost use Rattle.dy_turn.specs.Histories.{GrowsByOne};
+ghost use Rattle.dy_turn.specs.Views.{OwnFits, ticket_of, at_stage, after_marking, rest_of, new_seat, both_seats};
+ghost use Rattle.dy_turn.specs.Steps.{HasTicket, HasTurn};
 ghost use Rattle.dy_turn.specs.Tokens.{StepsOn, IsSame, WaitsFor, Works, HoldsValue};
 
 use crate::counted::Counted;
@@ -33,7 +33,7 @@ pub(crate) fn draw<T: Counted>(top: &Top<T>, token: &mut Token<T>) -> u64
     requires on { StepsOn top.now.table_id token.old }
     requires idle { token.old.me.0.stage ≡ Idle }
     ensures same { IsSame token.old token.new }
-    ensures ticket { (ticket : ℕ) × (result ≡ ticket % 2 ^ 64) × (token.new.me ≡ (staged token.old.me.0 (Waiting ticket), token.old.me.1)) }
+    ensures ticket { HasTicket token.old.me result token.new.me }
 {
     top.fetch_add::<Draw>(token, DRAWN, 1)
 }
@@ -85,7 +85,7 @@ pub(crate) fn release<T: Counted>(top: &Top<T>, token: &mut Token<T>)
     requires works { Works token.old }
     requires value { HoldsValue T.history T.same_base token.old }
     ensures same { IsSame token.old token.new }
-    ensures idle { token.new.me ≡ (staged token.old.me.0 Idle, []) }
+    ensures idle { token.new.me ≡ (at_stage token.old.me.0 Idle, []) }
 {
     top.fetch_add::<Release>(token, SERVED, 1);
     top.wake_all(SERVED);
@@ -102,7 +102,7 @@ pub(crate) fn append<T: Counted, L: Appended<T::Item>>(
     requires log { L.log ≡ T.history value.now }
     requires grown { GrowsByOne token.old.me.0.saw L.log }
     ensures same { IsSame token.old token.new }
-    ensures marked { token.new.me ≡ (having_marked token.old.me.0 L.log, token.old.me.1) }
+    ensures marked { token.new.me ≡ (after_marking token.old.me.0 L.log, token.old.me.1) }
     ensures fits { OwnFits token.new.me.0 }
 {
     top.store::<Mark<L>>(token, COUNT, value.count());
@@ -124,8 +124,8 @@ pub(crate) fn cut<T: Counted, N: Amount>(top: &Top<T>, token: &mut Token<T>, roo
     requires amount { N.amount ≡ room + 1 }
     requires less { room + 1 < token.old.me.0.parts }
     ensures same { IsSame token.old token.new }
-    ensures left { token.new.me ≡ (without (room + 1) token.old.me.0, token.old.me.1) }
-    ensures right { (result.table_id ≡ token.old.table_id) × (result.me ≡ (split_off (room + 1) token.old.me.0, [])) }
+    ensures left { token.new.me ≡ (rest_of (room + 1) token.old.me.0, token.old.me.1) }
+    ensures right { (result.table_id ≡ token.old.table_id) × (result.me ≡ (new_seat (room + 1) token.old.me.0, [])) }
 {
     top.split_seat::<Cut<N>>(token)
 }
@@ -135,7 +135,7 @@ pub(crate) fn glue<T: Counted>(top: &Top<T>, token: &mut Token<T>, other: Token<
     requires on { StepsOn top.now.table_id token.old × StepsOn top.now.table_id other }
     requires idle { (token.old.me.0.stage ≡ Idle) × (other.me.0.stage ≡ Idle) × (other.me.1 ≡ []) }
     ensures same { IsSame token.old token.new }
-    ensures joined { token.new.me ≡ (joined token.old.me.0 other.me.0, token.old.me.1) }
+    ensures joined { token.new.me ≡ (both_seats token.old.me.0 other.me.0, token.old.me.1) }
 {
     top.join_seat::<Glue>(token, other);
 }

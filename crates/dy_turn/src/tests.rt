@@ -1,5 +1,5 @@
 ghost use Rattle.std.specs.Prelude.{◌<◌, ◌≡◌, IfSome};
-ghost use Rattle.dy_turn.specs.Words.{IsOf, IsFree};
+ghost use Rattle.dy_turn.specs.Seats.{IsOf, IsFree};
 
 use super::*;
 use std::alloc::Global;

@@ -1,5 +1,5 @@
 use Rattle.std.proofs.Common.{rules, ◌≡◌, ◌<◌}
-use Rattle.dy_turn.specs.Knowing.{ticket_of}
+use Rattle.dy_turn.specs.Views.{ticket_of}
 use Rattle.dy_turn.specs.declared.known.Stage.TheVariants.{Waiting}
 use Rattle.dy_turn.proofs.ServingKept.{serves}
 use Rattle.dy_turn.proofs.steps.wait_for.Goals as goal

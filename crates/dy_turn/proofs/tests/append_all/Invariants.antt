@@ -1,4 +1,4 @@
-use Rattle.dy_turn.specs.Words.{IsOf, IsFree}
+use Rattle.dy_turn.specs.Seats.{IsOf, IsFree}
 use Rattle.dy_turn.proofs.tests.append_all.Given as goal
 
 abbrev pub invariant-loop-item : goal.invariant-loop-item
