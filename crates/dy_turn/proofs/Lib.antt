@@ -1,0 +1,15 @@
+pub mod Ranges
+pub mod Rising
+pub mod Sums
+pub mod Prefixes
+pub mod Fitting
+pub mod Changing
+pub mod MakingKept
+pub mod DrawingKept
+pub mod ServingKept
+pub mod ReleasingKept
+pub mod MarkingKept
+pub mod LookingKept
+pub mod SplittingKept
+pub mod JoiningKept
+pub mod ClosingKept
