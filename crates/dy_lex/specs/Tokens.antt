@@ -2,6 +2,7 @@
 -- as possible, and blanks at the end.
 use Rattle.std.specs.Prelude.{◌≡◌, ℕ, ◌+◌, true, false, ◌==◌, List, [], ◌∷◌, ◌++◌, length, map, count_by}
 use Rattle.std.specs.List.{list_all}
+use Rattle.dy_lex.specs.declared.letters.TheConstants.{NEWLINE}
 use Rattle.dy_lex.specs.declared.tokens.TokenKind.{TokenKind}
 use Rattle.dy_lex.specs.declared.tokens.Token.{Token}
 use Rattle.dy_lex.specs.Symbols.{is_blank, IsToken, runs_on}
@@ -21,7 +22,7 @@ pieces_of tokens = map piece_of tokens
 
 -- how many lines end here
 abbrev pub newlines : List ℕ → ℕ
-newlines bytes = count_by (λ b. b == 10) bytes
+newlines bytes = count_by (λ b. b == NEWLINE) bytes
 
 -- The source begins with blanks, and these lead from one place and line to the next.
 pub record Skips (at line : ℕ) (source : List ℕ) (next next_line : ℕ) (rest : List ℕ) : Type 0 where

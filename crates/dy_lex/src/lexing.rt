@@ -2,6 +2,7 @@ ghost use Rattle.std.specs.Prelude.{◌≡◌, ◌≤◌, ℕ, length, map, Some
 ghost use Rattle.dy_lex.specs.Messages.{lex_message};
 ghost use Rattle.dy_lex.specs.Tokens.{pieces_of, Spells, IsFaulty};
 
+use crate::letters::NEWLINE;
 use crate::limits::MAX_SOURCE_BYTES;
 use crate::prefixes::{is_blank, token_prefix};
 use crate::tokens::Token;
@@ -42,7 +43,7 @@ pub fn lex<'a>(alloc: Global, source: &'a [u8]) -> Result<Vec<Token<'a>>, LexErr
     while at < source.len() {
         let rest = &source[at..];
         if is_blank(rest[0]) {
-            line += u32::from(rest[0] == b'\n');
+            line += u32::from(rest[0] == NEWLINE);
             at += 1;
         } else if let Some((kind, len)) = token_prefix(rest) {
             let text = &rest[..len];

@@ -2,6 +2,7 @@
 #![tactic(auto)]
 
 mod laws;
+pub mod letters;
 mod lexing;
 mod limits;
 mod prefixes;

@@ -5,15 +5,17 @@ ghost use Rattle.dy_term.specs.Characters as chars;
 ghost use Rattle.dy_lex.specs.Symbols as symbols;
 ghost use Rattle.dy_lex.specs.MirrorPrefixes as mirror;
 
+use crate::letters::{CARRIAGE_RETURN, GREATER, MINUS, NEWLINE, TAB};
 use crate::limits::MAX_DIGITS;
 use crate::tokens::TokenKind;
 use dy_term::characters::{is_text_byte, is_word_byte};
+use dy_term::letters::{QUOTE, SPACE, ZERO};
 
 /// Whether the byte is a space, a tab, a newline or a carriage return.
 pub(crate) fn is_blank(byte: u8) -> bool
     ensures { result ≡ symbols.is_blank byte }
 {
-    (byte == b' ' || byte == b'\t') || (byte == b'\n' || byte == b'\r')
+    (byte == SPACE || byte == TAB) || (byte == NEWLINE || byte == CARRIAGE_RETURN)
 }
 
 /// How many letters, digits and `_` stand at the start.
@@ -54,7 +56,8 @@ fn is_number(bytes: &[u8]) -> bool
         [] => false,
         [digit] => digit.is_ascii_digit(),
         [first, more @ ..] => {
-            (first.is_ascii_digit() && *first != b'0') && (are_digits(more) && bytes.len() <= MAX_DIGITS)
+            (first.is_ascii_digit() && *first != ZERO)
+                && (are_digits(more) && bytes.len() <= MAX_DIGITS)
         }
     }
 }
@@ -74,7 +77,7 @@ fn text_prefix(more: &[u8]) -> Option<(TokenKind, usize)>
     ensures { result ≡ mirror.text_prefix more.now }
 {
     let len = text_len(more);
-    if len < more.len() && more[len] == b'"' {
+    if len < more.len() && more[len] == QUOTE {
         Some((TokenKind::Text, 2 + len))
     } else {
         None
@@ -85,7 +88,7 @@ fn arrow_prefix(more: &[u8]) -> Option<(TokenKind, usize)>
     ensures { result ≡ mirror.arrow_prefix more.now }
 {
     match more {
-        [b'>', ..] => Some((TokenKind::Symbol, 2)),
+        [GREATER, ..] => Some((TokenKind::Symbol, 2)),
         _ => None,
     }
 }
@@ -101,11 +104,11 @@ pub(crate) fn token_prefix(bytes: &[u8]) -> Option<(TokenKind, usize)>
                 Some((TokenKind::Word, word_len(bytes)))
             } else if b.is_ascii_digit() {
                 number_prefix(bytes)
-            } else if *b == b'"' {
+            } else if *b == QUOTE {
                 text_prefix(more)
             } else if is_mark(*b) {
                 Some((TokenKind::Symbol, 1))
-            } else if *b == b'-' {
+            } else if *b == MINUS {
                 arrow_prefix(more)
             } else {
                 None
