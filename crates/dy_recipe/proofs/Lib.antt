@@ -1,2 +1,3 @@
 pub mod LastValues
+pub mod NodeCounts
 pub mod ValuesByPlaces

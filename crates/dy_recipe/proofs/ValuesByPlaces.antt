@@ -8,7 +8,7 @@ use Rattle.dy_recipe.specs.Moves.{Move, Leaves}
 use Rattle.dy_recipe.specs.Values.{move_value, move_values, last_of, recipe_value}
 use Rattle.dy_recipe.specs.Places.{HasValue}
 
--- The values of moves behind earlier values: one for each, that of its move over all values before it.
+-- The values of moves after earlier values: one for each, that of its move over all values before it.
 record Follow (leaves : Leaves) (earlier : List Term) (moves : List Move) (more : List Term) : Type 0 where
   each : length more ≡ length moves
   over : (i : ℕ) (move : Move) → slice_get moves i ≡ Some move → slice_get more i ≡ move_value leaves (earlier ++ take i more) move
@@ -23,9 +23,9 @@ over_first leaves earlier move moves value more made rest (suc i) m at =
 before : (leaves : Leaves) (earlier : List Term) (move : Move) (moves : List Move) (value : Term) (more : List Term) → move_value leaves earlier move ≡ Some value → Follow leaves (earlier ++ value ∷ []) moves more → Follow leaves earlier (move ∷ moves) (value ∷ more)
 before leaves earlier move moves value more made rest = record { each = ap suc rest.each; over = over_first leaves earlier move moves value more made rest }
 
--- the others behind a move
-behind : (leaves : Leaves) (earlier : List Term) (move : Move) (moves : List Move) (value : Term) (more : List Term) → Follow leaves earlier (move ∷ moves) (value ∷ more) → Follow leaves (earlier ++ value ∷ []) moves more
-behind leaves earlier move moves value more all = record {
+-- the others after a move
+after : (leaves : Leaves) (earlier : List Term) (move : Move) (moves : List Move) (value : Term) (more : List Term) → Follow leaves earlier (move ∷ moves) (value ∷ more) → Follow leaves (earlier ++ value ∷ []) moves more
+after leaves earlier move moves value more all = record {
   each = omega (arith, all.each);
   over = λ i m at. all.over (suc i) m at ∙ ap (λ e. move_value leaves e m) (sym (append_assoc earlier (value ∷ []) (take i more)));
 }
@@ -54,7 +54,7 @@ followed leaves earlier (move ∷ moves) [] all = let bad : ⊥ = omega (arith, 
 followed leaves earlier (move ∷ moves) (value ∷ more) all =
     let made : move_value leaves earlier move ≡ Some value = ap (λ e. move_value leaves e move) (sym (append-nil earlier)) ∙ sym (all.over 0 move refl) in
     ap (option_and_then (λ v. move_values leaves (earlier ++ v ∷ []) moves)) made
-    ∙ followed leaves (earlier ++ value ∷ []) moves more (behind leaves earlier move moves value more all)
+    ∙ followed leaves (earlier ++ value ∷ []) moves more (after leaves earlier move moves value more all)
     ∙ ap Some (append_assoc earlier (value ∷ []) more)
 
 pub places : (leaves : Leaves) (moves : List Move) (value : Term) → recipe_value leaves moves ≡ Some value → HasValue leaves moves value

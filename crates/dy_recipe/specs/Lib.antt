@@ -1,6 +1,5 @@
 pub mod LentMeaning
 pub mod Meaning
 pub mod Moves
-pub mod Openings
 pub mod Places
 pub mod Values

@@ -5,7 +5,8 @@ use Rattle.dy_term.specs.Terms as trees
 use Rattle.dy_term.specs.Terms.{Term, size}
 use Rattle.dy_flat.specs.Parts as parts
 use Rattle.dy_recipe.specs.Moves.{Move, Message, Cert, Forge, State, Lit, Name, Pair, Pk, Vk, Penc, Aead, Sign, Mac, Kdf, Hash, Fst, Snd, Pdec, Adec, Ad, Body, Leaves, MessageAt, CertAt, FieldAt}
-use Rattle.dy_recipe.specs.Openings.{public_opened, opened, signed_message}
+use Rattle.dy_term.specs.declared.limits.TheConstants.{MAX_NODES}
+use Rattle.dy_flat.specs.Openings.{penc_message, aead_message, signed_message}
 
 -- the value that a number names among those of the earlier moves, counted from 1
 abbrev pub numbered : List Term → ℕ → Option Term
@@ -39,20 +40,20 @@ made_by leaves values (Kdf a context b) = of_two (λ x y. Some (trees.Kdf x cont
 made_by leaves values (Hash a) = option_map trees.Hash (numbered values a)
 made_by leaves values (Fst a) = option_and_then parts.first (numbered values a)
 made_by leaves values (Snd a) = option_and_then parts.second (numbered values a)
-made_by leaves values (Pdec a key) = of_two public_opened (numbered values a) (numbered values key)
-made_by leaves values (Adec a key) = of_two opened (numbered values a) (numbered values key)
+made_by leaves values (Pdec a key) = of_two penc_message (numbered values a) (numbered values key)
+made_by leaves values (Adec a key) = of_two aead_message (numbered values a) (numbered values key)
 made_by leaves values (Ad a) = option_and_then parts.data_part (numbered values a)
 made_by leaves values (Body a) = option_and_then signed_message (numbered values a)
 
 -- a term of at most 1,024 nodes
 abbrev pub if_small : Term → Option Term
-if_small term = if nat_le (size term) 1024 then Some term else None
+if_small term = if nat_le (size term) MAX_NODES then Some term else None
 
 -- the value of a move over the values of the earlier moves
 abbrev pub move_value : Leaves → List Term → Move → Option Term
 move_value leaves values move = option_and_then if_small (made_by leaves values move)
 
--- The values of moves behind earlier ones, each over the values of all before it. There are none where a move has none.
+-- The values of moves after earlier ones, each over the values of all before it. There are none where a move has none.
 abbrev pub move_values : Leaves → List Term → List Move → Option (List Term)
 move_values leaves earlier [] = Some earlier
 move_values leaves earlier (move ∷ more) = option_and_then (λ value. move_values leaves (earlier ++ value ∷ []) more) (move_value leaves earlier move)

@@ -1,4 +1,5 @@
-ghost use Rattle.std.specs.Prelude.{◌≡◌, [], IfOk, option_map};
+ghost use Rattle.std.specs.Prelude.{◌≡◌, [], ◌+◌, IfOk, nat_le, min, option_map};
+ghost use Rattle.dy_term.specs.Terms.{size};
 ghost use Rattle.std.specs.Option.{option_copied};
 ghost use Rattle.dy_flat.specs.Views.{tree_of};
 ghost use Rattle.dy_flat.specs.PartMeaning.{part_of};
@@ -9,11 +10,11 @@ ghost use Rattle.dy_recipe.specs.LentMeaning.{term_of_lent};
 
 use crate::given::Given;
 use crate::moves::Move;
-use crate::opening::{opened, public_opened, signed_message};
 use dy_flat::{
-    FlatTerm, View, aead, copied, data_part, first, hash, kdf, lit, mac, name, nonce, pair, penc,
-    pk, second, sign, vk,
+    FlatTerm, View, aead, aead_message, copied, data_part, first, hash, kdf, lit, mac, name, nodes,
+    nonce, pair, penc, penc_message, pk, second, sign, signed_message, vk,
 };
+use dy_term::limits::MAX_NODES;
 use dy_term::{Memory, Text, Word};
 use std::alloc::Global;
 
@@ -102,17 +103,65 @@ pub(crate) fn lent_by<'a, G: Given>(
         Move::Hash(a) => Some(Lent::Hash(numbered(values, *a)?)),
         Move::Fst(a) => as_part(first(numbered(values, *a)?)),
         Move::Snd(a) => as_part(second(numbered(values, *a)?)),
-        Move::Pdec(a, key) => as_part(public_opened(
-            numbered(values, *a)?,
-            numbered(values, *key)?,
-        )),
-        Move::Adec(a, key) => as_part(opened(numbered(values, *a)?, numbered(values, *key)?)),
+        Move::Pdec(a, key) => as_part(penc_message(numbered(values, *a)?, numbered(values, *key)?)),
+        Move::Adec(a, key) => as_part(aead_message(numbered(values, *a)?, numbered(values, *key)?)),
         Move::Ad(a) => as_part(data_part(numbered(values, *a)?)),
         Move::Body(a) => as_part(signed_message(numbered(values, *a)?)),
     }
 }
 
-/// The term, in memory of its own. The one refusal is for want of memory.
+/// How many nodes a term of one part has, or more than 1,024 where it has more.
+fn nodes_of_one(a: View) -> u32
+    ensures { nat_le result MAX_NODES ≡ nat_le (1 + size (tree_of a.entry)) MAX_NODES }
+{
+    1 + nodes(a)
+}
+
+/// The same, for two parts.
+fn nodes_of_two(a: View, b: View) -> u32
+    ensures { nat_le result MAX_NODES ≡ nat_le (1 + size (tree_of a.entry) + size (tree_of b.entry)) MAX_NODES }
+{
+    1 + nodes(a) + nodes(b)
+}
+
+/// The same, for three parts.
+fn nodes_of_three(a: View, b: View, c: View) -> u32
+    ensures { nat_le result MAX_NODES
+        ≡ nat_le (1 + size (tree_of a.entry) + size (tree_of b.entry) + size (tree_of c.entry)) MAX_NODES }
+{
+    1 + nodes(a) + nodes(b) + nodes(c)
+}
+
+/// The same, for any term.
+fn nodes_of(lent: Lent) -> u32
+    ensures { nat_le result MAX_NODES ≡ nat_le (size (term_of_lent lent.entry)) MAX_NODES }
+{
+    match lent {
+        Lent::Whole(term) => nodes(term.whole()),
+        Lent::Part(part) => nodes(part),
+        Lent::Lit(_) => 1,
+        Lent::Name(_) => 1,
+        Lent::Nonce(_) => 1,
+        Lent::Pk(a) => nodes_of_one(a),
+        Lent::Vk(a) => nodes_of_one(a),
+        Lent::Hash(a) => nodes_of_one(a),
+        Lent::Pair(a, b) => nodes_of_two(a, b),
+        Lent::Penc(a, b) => nodes_of_two(a, b),
+        Lent::Sign(a, b) => nodes_of_two(a, b),
+        Lent::Mac(a, b) => nodes_of_two(a, b),
+        Lent::Kdf(a, _, b) => nodes_of_two(a, b),
+        Lent::Aead(a, b, c) => nodes_of_three(a, b, c),
+    }
+}
+
+/// Whether a term has at most 1,024 nodes.
+pub(crate) fn is_small(lent: Lent) -> bool
+    ensures { result ≡ nat_le (size (term_of_lent lent.entry)) MAX_NODES }
+{
+    nodes_of(lent) <= MAX_NODES
+}
+
+/// The term, in memory of its own. The one refusal is out of memory.
 pub(crate) fn build(alloc: Global, lent: Lent) -> Result<FlatTerm, Memory>
     ensures { IfOk result (λ made. made ≡ term_of_lent lent.entry) }
 {

@@ -6,7 +6,6 @@ mod given;
 mod laws;
 mod lent;
 mod moves;
-mod opening;
 
 pub use applying::apply;
 pub use given::Given;

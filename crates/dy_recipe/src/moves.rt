@@ -73,15 +73,13 @@ impl Move {
 }
 
 impl Recipe {
-    /// The same recipe, in memory of its own. The one refusal is for want of memory.
+    /// The same recipe, in memory of its own. The one refusal is out of memory.
     pub fn copy(&self, alloc: Global) -> Result<Recipe, Memory>
         ensures { IfOk result (λ made. made ≡ self.now) }
     {
         let mut moves = Items::new(alloc);
         for step in self.moves.as_slice() {
-            if moves.push(step.copy()).is_err() {
-                return Err(Memory);
-            }
+            moves.push(step.copy())?;
         }
         Ok(Recipe { moves })
     }
