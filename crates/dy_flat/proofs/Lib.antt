@@ -2,5 +2,8 @@ pub mod BuiltRuns
 pub mod Differences
 pub mod Lookups
 pub mod PartRuns
+pub mod PartSizes
 pub mod Spans
+pub mod TupleFields
+pub mod TupleRuns
 pub mod WholeRuns

@@ -2,6 +2,8 @@ pub mod Codes
 pub mod Differing
 pub mod Growth
 pub mod Meaning
+pub mod MirrorTuples
+pub mod Openings
 pub mod PartMeaning
 pub mod Parts
 pub mod Runs

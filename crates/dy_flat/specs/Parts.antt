@@ -1,6 +1,6 @@
 -- The parts of a term, by their names.
-use Rattle.std.specs.Prelude.{Option, Some, None}
-use Rattle.dy_term.specs.Terms.{Term, Pair, Pk, Vk, Penc, Aead, Sign, Mac, Hash}
+use Rattle.std.specs.Prelude.{Option, Some, None, List, [], ◌∷◌}
+use Rattle.dy_term.specs.Terms.{Term, Lit, Name, Nonce, Pair, Pk, Vk, Penc, Aead, Sign, Mac, Kdf, Hash}
 
 abbrev pub first : Term → Option Term
 first (Pair a b) = Some a
@@ -37,3 +37,18 @@ inner (Pk key) = Some key
 inner (Vk key) = Some key
 inner (Hash message) = Some message
 inner _ = None
+
+-- the parts of a term, in the order of its constructor
+abbrev pub parts_of : Term → List Term
+parts_of (Lit text) = []
+parts_of (Name principal) = []
+parts_of (Nonce index) = []
+parts_of (Pair first second) = first ∷ second ∷ []
+parts_of (Pk key) = key ∷ []
+parts_of (Vk key) = key ∷ []
+parts_of (Penc to message) = to ∷ message ∷ []
+parts_of (Aead key message associated) = key ∷ message ∷ associated ∷ []
+parts_of (Sign key message) = key ∷ message ∷ []
+parts_of (Mac key message) = key ∷ message ∷ []
+parts_of (Kdf key context input) = key ∷ input ∷ []
+parts_of (Hash message) = message ∷ []

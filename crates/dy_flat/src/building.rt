@@ -1,5 +1,6 @@
-ghost use Rattle.std.specs.Prelude.{◌≡◌, [], ◌∷◌, ◌++◌, true, IfOk, length};
+ghost use Rattle.std.specs.Prelude.{◌≡◌, [], ◌∷◌, ◌++◌, true, IfOk, length, map};
 ghost use Rattle.dy_term.specs.Terms as trees;
+ghost use Rattle.dy_term.specs.Tuples.{tagged};
 ghost use Rattle.dy_flat.specs.Runs.{run_of, made_of};
 ghost use Rattle.dy_flat.specs.Meaning.{is_plain, plain};
 ghost use Rattle.dy_flat.specs.Views.{tree_of};
@@ -44,7 +45,7 @@ fn with_two(alloc: Global, node: Node, a: View, b: View) -> Result<FlatTerm, Mem
     Ok(FlatTerm::of_run(run))
 }
 
-/// A literal. The one refusal is for want of memory.
+/// A literal. The one refusal is out of memory.
 pub fn lit(alloc: Global, text: &Text) -> Result<FlatTerm, Memory>
     ensures { IfOk result (λ made. made ≡ trees.Lit text.now) }
 {
@@ -53,7 +54,7 @@ pub fn lit(alloc: Global, text: &Text) -> Result<FlatTerm, Memory>
     Ok(FlatTerm::of_run(run))
 }
 
-/// The name of a principal. The one refusal is for want of memory.
+/// The name of a principal. The one refusal is out of memory.
 pub fn name(alloc: Global, word: &Word) -> Result<FlatTerm, Memory>
     ensures { IfOk result (λ made. made ≡ trees.Name word.now) }
 {
@@ -62,7 +63,7 @@ pub fn name(alloc: Global, word: &Word) -> Result<FlatTerm, Memory>
     Ok(FlatTerm::of_run(run))
 }
 
-/// The nonce that the entry of this index made. The one refusal is for want of memory.
+/// The nonce that the entry of this index made. The one refusal is out of memory.
 pub fn nonce(alloc: Global, index: u32) -> Result<FlatTerm, Memory>
     ensures { IfOk result (λ made. made ≡ trees.Nonce index) }
 {
@@ -71,35 +72,35 @@ pub fn nonce(alloc: Global, index: u32) -> Result<FlatTerm, Memory>
     Ok(FlatTerm::of_run(run))
 }
 
-/// A pair. The one refusal is for want of memory.
+/// A pair. The one refusal is out of memory.
 pub fn pair(alloc: Global, a: View, b: View) -> Result<FlatTerm, Memory>
     ensures { IfOk result (λ made. made ≡ trees.Pair (tree_of a.entry) (tree_of b.entry)) }
 {
     with_two(alloc, Node::Pair(count(a)?), a, b)
 }
 
-/// The public key of a decryption key. The one refusal is for want of memory.
+/// The public key of a decryption key. The one refusal is out of memory.
 pub fn pk(alloc: Global, k: View) -> Result<FlatTerm, Memory>
     ensures { IfOk result (λ made. made ≡ trees.Pk (tree_of k.entry)) }
 {
     with_one(alloc, Node::Pk, k)
 }
 
-/// The verification key of a signing key. The one refusal is for want of memory.
+/// The verification key of a signing key. The one refusal is out of memory.
 pub fn vk(alloc: Global, k: View) -> Result<FlatTerm, Memory>
     ensures { IfOk result (λ made. made ≡ trees.Vk (tree_of k.entry)) }
 {
     with_one(alloc, Node::Vk, k)
 }
 
-/// Public-key encryption, to a key, of a message. The one refusal is for want of memory.
+/// Public-key encryption, to a key, of a message. The one refusal is out of memory.
 pub fn penc(alloc: Global, p: View, m: View) -> Result<FlatTerm, Memory>
     ensures { IfOk result (λ made. made ≡ trees.Penc (tree_of p.entry) (tree_of m.entry)) }
 {
     with_two(alloc, Node::Penc(count(p)?), p, m)
 }
 
-/// Authenticated encryption, by a key, of a message with associated data. The one refusal is for want of memory.
+/// Authenticated encryption, by a key, of a message with associated data. The one refusal is out of memory.
 pub fn aead(alloc: Global, k: View, m: View, a: View) -> Result<FlatTerm, Memory>
     ensures { IfOk result (λ made. made ≡ trees.Aead (tree_of k.entry) (tree_of m.entry) (tree_of a.entry)) }
 {
@@ -112,21 +113,21 @@ pub fn aead(alloc: Global, k: View, m: View, a: View) -> Result<FlatTerm, Memory
     Ok(FlatTerm::of_run(run))
 }
 
-/// A signature by a key, of a message. The one refusal is for want of memory.
+/// A signature by a key, of a message. The one refusal is out of memory.
 pub fn sign(alloc: Global, k: View, m: View) -> Result<FlatTerm, Memory>
     ensures { IfOk result (λ made. made ≡ trees.Sign (tree_of k.entry) (tree_of m.entry)) }
 {
     with_two(alloc, Node::Sign(count(k)?), k, m)
 }
 
-/// A message authentication code by a key, of a message. The one refusal is for want of memory.
+/// A message authentication code by a key, of a message. The one refusal is out of memory.
 pub fn mac(alloc: Global, k: View, m: View) -> Result<FlatTerm, Memory>
     ensures { IfOk result (λ made. made ≡ trees.Mac (tree_of k.entry) (tree_of m.entry)) }
 {
     with_two(alloc, Node::Mac(count(k)?), k, m)
 }
 
-/// The key that is derived from a key, with a context, from an input. The one refusal is for want of memory.
+/// The key that is derived from a key, with a context, from an input. The one refusal is out of memory.
 pub fn kdf(alloc: Global, k: View, c: &Text, x: View) -> Result<FlatTerm, Memory>
     ensures { IfOk result (λ made. made ≡ trees.Kdf (tree_of k.entry) c.now (tree_of x.entry)) }
 {
@@ -137,9 +138,38 @@ pub fn kdf(alloc: Global, k: View, c: &Text, x: View) -> Result<FlatTerm, Memory
     Ok(FlatTerm::of_run(run))
 }
 
-/// A hash of a message. The one refusal is for want of memory.
+/// A hash of a message. The one refusal is out of memory.
 pub fn hash(alloc: Global, m: View) -> Result<FlatTerm, Memory>
     ensures { IfOk result (λ made. made ≡ trees.Hash (tree_of m.entry)) }
 {
     with_one(alloc, Node::Hash, m)
+}
+
+/// The number of nodes of a tuple of these fields, or the greatest number.
+fn nodes_of_tuple(fields: &[View]) -> usize {
+    let mut nodes = 1usize;
+    for field in fields {
+        nodes = nodes.saturating_add(field.nodes.len()).saturating_add(1);
+    }
+    nodes
+}
+
+/// The tuple of a tag and fields, `"tag"(field, .., field)`. The one refusal is out of memory.
+pub fn tuple(alloc: Global, tag: &Text, fields: &[View]) -> Result<FlatTerm, Memory>
+    ensures { IfOk result (λ made. made ≡ tagged tag.now (map tree_of fields.now)) }
+{
+    let [first, more @ ..] = fields else {
+        return lit(alloc, tag);
+    };
+    let mut run = Run::with_room(alloc, nodes_of_tuple(fields))?;
+    run.push(Node::Pair(1))?;
+    run.push_lit(tag)?;
+    let mut last = *first;
+    for field in more {
+        run.push(Node::Pair(count(last)?))?;
+        run.push_view(last)?;
+        last = *field;
+    }
+    run.push_view(last)?;
+    Ok(FlatTerm::of_run(run))
 }

@@ -111,4 +111,20 @@ impl Contents {
             }
         }
     }
+
+    /// The same texts and names, in memory of their own.
+    pub(crate) fn copy(&self, alloc: Global) -> Result<Contents, Memory>
+        ensures texts { IfOk result (λ made. made.texts.items ≡ self.now.texts.items) }
+        ensures names { IfOk result (λ made. made.names.items ≡ self.now.names.items) }
+    {
+        let mut texts = Vec::with_capacity(alloc, self.texts.len())?;
+        for text in &self.texts {
+            texts.push(text.copy())?;
+        }
+        let mut names = Vec::with_capacity(alloc, self.names.len())?;
+        for name in &self.names {
+            names.push(name.copy())?;
+        }
+        Ok(Contents { texts, names })
+    }
 }

@@ -1,9 +1,11 @@
 ghost use Rattle.std.specs.Prelude.{◌≡◌};
 ghost use Rattle.dy_flat.specs.Meaning as meaning;
 
+use std::alloc::AllocError;
+
 /// A node of a term, without its parts, which follow it. The place of its text or name is one in the contents. A node
 /// whose parts are lent and are more than one has the number of nodes before the last of them.
-#[derive(Clone, Copy, Debug)]
+#[derive(Copy, Debug)]
 pub(crate) enum Node {
     Lit(u32),
     Name(u32),
@@ -17,6 +19,16 @@ pub(crate) enum Node {
     Mac(u32),
     Kdf(u32),
     Hash,
+}
+
+impl Clone for Node {
+    ghost use Rattle.std.specs.Prelude.{◌≡◌};
+
+    ghost is_clone = { λ node copy. copy ≡ node };
+
+    fn clone(&self) -> Result<Node, AllocError> {
+        Ok(*self)
+    }
 }
 
 /// How many parts a node has.

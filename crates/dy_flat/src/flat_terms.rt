@@ -1,4 +1,3 @@
-use crate::copying::copied;
 use crate::runs::Run;
 use crate::views::View;
 use dy_term::Memory;
@@ -58,6 +57,8 @@ impl FlatTerm {
     pub fn copy(&self, alloc: Global) -> Result<FlatTerm, Memory>
         ensures { IfOk result (λ made. made ≡ self.now) }
     {
-        copied(alloc, self.whole())
+        Ok(FlatTerm {
+            run: self.run.copy(alloc)?,
+        })
     }
 }

@@ -8,20 +8,26 @@ mod converting;
 mod copying;
 mod flat_nodes;
 mod flat_terms;
+mod laws;
+mod opening;
 mod parts;
 mod reading;
 mod runs;
 mod shapes;
+mod tuples;
 mod views;
 
-pub use building::{aead, hash, kdf, lit, mac, name, nonce, pair, penc, pk, sign, vk};
+pub use building::{aead, hash, kdf, lit, mac, name, nonce, pair, penc, pk, sign, tuple, vk};
 pub use comparing::same;
 pub use converting::{from_tree, to_tree};
 pub use copying::copied;
 pub use flat_terms::FlatTerm;
-pub use parts::{body_part, data_part, first, inner, key_part, second};
+pub use laws::part_is_smaller;
+pub use opening::{aead_message, aead_message_with, penc_message, signed_message};
+pub use parts::{Parts, body_part, data_part, first, inner, key_part, part_at, second, take_apart};
 pub use reading::{nodes, shape};
 pub use shapes::Shape;
+pub use tuples::{Fields, tuple_fields};
 pub use views::View;
 
 #[cfg(test)]

@@ -1,4 +1,4 @@
-ghost use Rattle.std.specs.Prelude.{◌≡◌, ◌≤◌, ◌-◌, Some, map, take, drop, length};
+ghost use Rattle.std.specs.Prelude.{◌≡◌, ◌≤◌, ◌-◌, Some, slice_get, map, take, drop, length};
 ghost use Rattle.dy_term.specs.Terms.{Term};
 ghost use Rattle.dy_flat.specs.Runs.{run_of, span};
 ghost use Rattle.dy_flat.specs.Meaning.{read_all, arity};
@@ -10,9 +10,9 @@ use crate::flat_nodes::{Node, arity};
 use crate::views::View;
 use dy_term::{Text, Word};
 
-/// A term taken apart by one constructor.
+/// A term by its constructor: what stands in it, and its parts, lent.
 #[derive(Clone, Copy)]
-pub(crate) enum Parts<'a> {
+pub enum Parts<'a> {
     Lit(&'a Text),
     Name(&'a Word),
     Nonce(u32),
@@ -52,8 +52,8 @@ fn part<'a>(view: View<'a>, from: usize, to: usize) -> View<'a>
     }
 }
 
-/// Takes a term apart. Of `Aead` and `Kdf` it goes through the nodes of the key, of others through none.
-pub(crate) fn take_apart<'a>(view: View<'a>) -> Parts<'a>
+/// Lends what a term is made of. Of `Aead` and `Kdf` it goes through the nodes of the key, of others through none.
+pub fn take_apart<'a>(view: View<'a>) -> Parts<'a>
     ensures { term_of_parts result ≡ tree_of view.entry }
 {
     let end = view.nodes.len();
@@ -166,4 +166,40 @@ pub fn inner<'a>(view: View<'a>) -> Option<View<'a>>
         Node::Pk | Node::Vk | Node::Hash => Some(part(view, 1, view.nodes.len())),
         _ => None,
     }
+}
+
+/// The part of this number, counted from 0.
+fn numbered_part<'a>(term: Parts<'a>, number: usize) -> Option<View<'a>>
+    ensures { part_of result ≡ slice_get (parts.parts_of (term_of_parts term.entry)) number }
+{
+    match term {
+        Parts::Lit(_) | Parts::Name(_) | Parts::Nonce(_) => None,
+        Parts::Pk(part) | Parts::Vk(part) | Parts::Hash(part) => match number {
+            0 => Some(part),
+            _ => None,
+        },
+        Parts::Pair(first, second)
+        | Parts::Penc(first, second)
+        | Parts::Sign(first, second)
+        | Parts::Mac(first, second)
+        | Parts::Kdf(first, _, second) => match number {
+            0 => Some(first),
+            1 => Some(second),
+            _ => None,
+        },
+        Parts::Aead(key, message, associated) => match number {
+            0 => Some(key),
+            1 => Some(message),
+            2 => Some(associated),
+            _ => None,
+        },
+    }
+}
+
+/// Lends the part of this number, counted from 0 in the order of the constructor. `None` exactly where the term has
+/// no more parts than that. Of `Aead` and `Kdf` it goes through the nodes of the key, of others through none.
+pub fn part_at<'a>(view: View<'a>, number: usize) -> Option<View<'a>>
+    ensures { part_of result ≡ slice_get (parts.parts_of (tree_of view.entry)) number }
+{
+    numbered_part(take_apart(view), number)
 }

@@ -63,6 +63,16 @@ impl Run {
         }
     }
 
+    /// The same run, in memory of its own.
+    pub(crate) fn copy(&self, alloc: Global) -> Result<Run, Memory>
+        ensures { IfOk result (λ made. made ≡ self.now) }
+    {
+        Ok(Run {
+            nodes: Vec::from_clones(alloc, self.nodes.as_slice())?,
+            contents: self.contents.copy(alloc)?,
+        })
+    }
+
     pub(crate) fn len(&self) -> usize
         ensures { result ≡ length self.now }
     {
