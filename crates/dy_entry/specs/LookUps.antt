@@ -1,5 +1,6 @@
 -- What is looked up in a trace.
-use Rattle.std.specs.Prelude.{◌≡◌, ℕ, ◌+◌, ◌≤◌, Bool, true, false, ◌&&◌, ◌==◌, List, [], ◌∷◌, Option, Some, None, if◌then◌else◌, max, take, count_by}
+use Rattle.std.specs.Prelude.{◌≡◌, ℕ, ◌+◌, ◌≤◌, Bool, true, false, ◌&&◌, ◌==◌, if◌then◌else◌, max}
+use Rattle.std.specs.Prelude.{List, [], ◌∷◌, Option, Some, None, take, count_by}
 use Rattle.std.specs.List.{slice_get, position, filter_map}
 use Rattle.std.specs.Str.{bytes_eq}
 use Rattle.dy_label.specs.Labels.{Place, Version, is_covered_by}
@@ -21,7 +22,8 @@ is_covered T principal session version = is_covered_by (corruptions T) (Version 
 
 -- the entry is this version of this session of the principal
 abbrev pub is_version_of : List ℕ → ℕ → ℕ → Entry → Bool
-is_version_of principal session version (State instance p s v tag fields) = bytes_eq p principal && (s == session) && (v == version)
+is_version_of principal session version (State instance p s v tag fields) =
+    bytes_eq p principal && (s == session) && (v == version)
 is_version_of principal session version e = false
 
 -- the index of the first entry that is this version
@@ -40,7 +42,8 @@ newest (e ∷ T) principal session = max (version_in principal session e) (newes
 
 -- the session and version of a State of this principal and tag
 abbrev pub place_of_state : List ℕ → List ℕ → Entry → Option (ℕ × ℕ)
-place_of_state principal tag (State instance p s v t fields) = if bytes_eq p principal && bytes_eq t tag then Some (s, v) else None
+place_of_state principal tag (State instance p s v t fields) =
+    if bytes_eq p principal && bytes_eq t tag then Some (s, v) else None
 place_of_state principal tag e = None
 
 -- At this index stands a State of this principal and tag, after what is given in the order of look-ups.
@@ -52,7 +55,8 @@ Fits T principal tag from index at =
 pub record IsNext (T : List Entry) (principal tag : List ℕ) (from : Option (ℕ × ℕ)) (index : ℕ) : Type 0 where
   pub at : ℕ × ℕ
   pub fits : Fits T principal tag from index at
-  pub first : (other : ℕ) (other_at : ℕ × ℕ) → Fits T principal tag from other other_at → comes_before other_at at ≡ false
+  pub first : (other : ℕ) (other_at : ℕ × ℕ)
+      → Fits T principal tag from other other_at → comes_before other_at at ≡ false
   pub least : (other : ℕ) → Fits T principal tag from other at → index ≤ other
 
 -- No State fits.

@@ -12,7 +12,8 @@ entry_of (code.Setup input) = Setup input
 entry_of (code.Start step handler principal session args message) = Start step handler principal session args message
 entry_of (code.Fresh instance label usage) = Fresh instance label usage
 entry_of (code.Message instance value) = Message instance value
-entry_of (code.State instance principal session version tag fields) = State instance principal session version tag fields
+entry_of (code.State instance principal session version tag fields) =
+    State instance principal session version tag fields
 entry_of (code.Event instance principal name args) = Event instance principal name args
 entry_of (code.Cert instance principal usage key) = Cert instance principal usage key
 entry_of (code.End instance outcome) = End instance outcome

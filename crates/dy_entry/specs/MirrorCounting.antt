@@ -1,7 +1,8 @@
 -- One more entry is counted.
 use Rattle.std.specs.Prelude.{ℕ, ◌+◌, ◌<◌, ◌^◌, Bool, if◌then◌else◌}
 use Rattle.dy_entry.specs.Entries.{Entry}
-use Rattle.dy_entry.specs.Summaries.{Counts, is_start, is_fresh, is_message, is_state, is_event, is_cert, is_done, is_stopped, is_corrupt, is_forge, is_inject, is_skip}
+use Rattle.dy_entry.specs.Summaries.{Counts, is_start, is_fresh, is_message, is_state, is_event, is_cert}
+use Rattle.dy_entry.specs.Summaries.{is_done, is_stopped, is_corrupt, is_forge, is_inject, is_skip}
 
 abbrev pub one_more_if : Bool → ℕ → ℕ
 one_more_if counted number = if counted then number + 1 else number

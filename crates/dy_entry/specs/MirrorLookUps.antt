@@ -14,11 +14,13 @@ Candidate = ℕ × (ℕ × ℕ)
 -- the earlier of what was found and a State that stands at a later index, if that comes after what is given
 abbrev pub earlier_of : Option (ℕ × ℕ) → Option Candidate → Candidate → Option Candidate
 earlier_of from None other = if is_after from other.1 then Some other else None
-earlier_of from (Some found) other = if is_after from other.1 && comes_before other.1 found.1 then Some other else Some found
+earlier_of from (Some found) other =
+    if is_after from other.1 && comes_before other.1 found.1 then Some other else Some found
 
 -- the entry is a corruption that covers this version
 abbrev pub covers_version : List ℕ → ℕ → ℕ → Entry → Bool
-covers_version principal session version (Corrupt step corruption) = covers corruption (Version principal session version)
+covers_version principal session version (Corrupt step corruption) =
+    covers corruption (Version principal session version)
 covers_version principal session version e = false
 
 -- the entry is an output of this kind and of this instance

@@ -11,8 +11,8 @@ label_of_nonce (Some (Fresh instance label usage)) = label
 label_of_nonce (Some (Forge step)) = Public
 label_of_nonce e = Nobody
 
--- Literals, names and public keys are public, and so is what is encrypted to a key. What authenticates shows its data, what
--- signs, authenticates or hashes shows its message, and what is derived from a key is as the key.
+-- Literals, names and public keys are public, and so is what is encrypted to a public key. Authenticated encryption
+-- shows its associated data; a signature, a code and a hash show their message; a derived key is as its key.
 abbrev pub label_of : List Entry → Term → Label
 label_of T (Lit text) = Public
 label_of T (Name principal) = Public
@@ -46,7 +46,8 @@ HasMadeNonces T (Pair first second) = HasMadeNonces T first × HasMadeNonces T s
 HasMadeNonces T (Pk key) = HasMadeNonces T key
 HasMadeNonces T (Vk key) = HasMadeNonces T key
 HasMadeNonces T (Penc to message) = HasMadeNonces T to × HasMadeNonces T message
-HasMadeNonces T (Aead key message associated) = HasMadeNonces T key × HasMadeNonces T message × HasMadeNonces T associated
+HasMadeNonces T (Aead key message associated) =
+    HasMadeNonces T key × HasMadeNonces T message × HasMadeNonces T associated
 HasMadeNonces T (Sign key message) = HasMadeNonces T key × HasMadeNonces T message
 HasMadeNonces T (Mac key message) = HasMadeNonces T key × HasMadeNonces T message
 HasMadeNonces T (Kdf key context input) = HasMadeNonces T key × HasMadeNonces T input

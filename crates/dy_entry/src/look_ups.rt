@@ -1,6 +1,6 @@
-ghost use Rattle.std.specs.Prelude.{◌≡◌, ◌<◌, ◌^◌, length, map, position, IfOk, IfSome, MatchOption};
+ghost use Rattle.std.specs.Prelude.{◌≡◌, ◌<◌, ◌^◌, length, position, IfOk, IfSome, MatchOption};
 ghost use Rattle.std.specs.List.{list_any};
-ghost use Rattle.dy_label.specs.LabelsMeaning.{place_of_corruption};
+ghost use Rattle.dy_label.specs.LabelsMeaning.{places_of};
 ghost use Rattle.dy_entry.specs.LookUps as look_ups;
 ghost use Rattle.dy_entry.specs.LookUps.{IsNext, HasNoNext, IsNth, HasNoNth, is_message_of, is_cert_of};
 ghost use Rattle.dy_entry.specs.Meaning.{entry_of, entries_of};
@@ -15,7 +15,7 @@ use std::alloc::Global;
 
 /// All corruptions, in order. It refuses out of memory alone.
 pub fn corruptions(alloc: Global, entries: &[Entry]) -> Result<Vec<Corruption>, Memory>
-    ensures { IfOk result (λ found. map place_of_corruption found.items ≡ look_ups.corruptions (entries_of entries.now)) }
+    ensures { IfOk result (λ found. places_of found.items ≡ look_ups.corruptions (entries_of entries.now)) }
 {
     let mut found = Vec::new(alloc);
     for entry in entries {
@@ -53,7 +53,8 @@ pub fn state_at(entries: &[Entry], principal: &Word, session: u32, version: u32)
 }
 
 fn first_version(entries: &[Entry], principal: &Word, session: u32, version: u32) -> Option<usize>
-    ensures first { result ≡ position (λ entry. look_ups.is_version_of principal.now session version (entry_of entry)) entries.now }
+    ensures first { result ≡
+        position (λ entry. look_ups.is_version_of principal.now session version (entry_of entry)) entries.now }
     ensures within { IfSome result (λ index. index < length entries.now) }
 {
     entries
@@ -108,7 +109,8 @@ pub fn find_cert(entries: &[Entry], principal: &Word, usage: &Word) -> Option<u3
 }
 
 fn first_cert(entries: &[Entry], principal: &Word, usage: &Word) -> Option<usize>
-    ensures first { result ≡ position (λ entry. look_ups.is_cert_for principal.now usage.now (entry_of entry)) entries.now }
+    ensures first { result ≡
+        position (λ entry. look_ups.is_cert_for principal.now usage.now (entry_of entry)) entries.now }
     ensures within { IfSome result (λ index. index < length entries.now) }
 {
     entries
