@@ -1,4 +1,4 @@
--- Contents that only have more behind those of before.
+-- Contents that only gain texts and names, after those they had.
 use Rattle.std.specs.Prelude.{◌≡◌, ℕ, List, ◌++◌}
 use Rattle.dy_flat.specs.declared.contents.Contents.{Contents}
 

@@ -31,7 +31,7 @@ run_of (trees.Mac key message) = Mac (length (run_of key)) ∷ (run_of key ++ ru
 run_of (trees.Kdf key context input) = Kdf context ∷ (run_of key ++ run_of input)
 run_of (trees.Hash message) = Hash ∷ run_of message
 
--- The terms that a node makes of the terms behind it, of which it takes as many as it has parts.
+-- The terms that a node makes of the terms after it, of which it takes as many as it has parts.
 abbrev pub over : Node → List trees.Term → List trees.Term
 over (Lit text) terms = trees.Lit text ∷ terms
 over (Name principal) terms = trees.Name principal ∷ terms

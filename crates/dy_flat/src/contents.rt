@@ -15,7 +15,7 @@ pub(crate) struct Contents {
     ghost names_once: { all_differ names.items ≡ true },
 }
 
-/// A number of 32 bits. Where it takes more, memory is said to be wanting.
+/// A number of 32 bits. Where it takes more, the answer is out of memory.
 pub(crate) fn as_number(count: usize) -> Result<u32, Memory>
     ensures number { IfOk result (λ number. number ≡ count) }
     ensures more { IfErr result (λ _. 2 ^ 32 ≤ count) }

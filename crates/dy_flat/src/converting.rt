@@ -79,7 +79,7 @@ fn push_two(run: &mut Run, first: &Term, second: &Term) -> Result<u32, Memory>
     as_number(run.len() - end)
 }
 
-/// The flat form of a term. The one refusal is for want of memory. It goes down the term by calls as deep as the
+/// The flat form of a term. The one refusal is out of memory. It goes down the term by calls as deep as the
 /// term is, at most two for each level.
 pub fn from_tree(alloc: Global, term: &Term) -> Result<FlatTerm, Memory>
     ensures { IfOk result (λ made. made ≡ terms.tree_of term.now) }
@@ -93,13 +93,10 @@ pub fn from_tree(alloc: Global, term: &Term) -> Result<FlatTerm, Memory>
 fn boxed(alloc: Global, term: Term) -> Result<Box<Term>, Memory>
     ensures { IfOk result (λ made. made.value ≡ term) }
 {
-    match Box::new(alloc, term) {
-        Ok(made) => Ok(made),
-        Err(_) => Err(Memory),
-    }
+    Ok(Box::new(alloc, term)?)
 }
 
-/// The tree of a term. The one refusal is for want of memory. It calls itself once for each level of the term.
+/// The tree of a term. The one refusal is out of memory. It calls itself once for each level of the term.
 pub fn to_tree(alloc: Global, view: View) -> Result<Term, Memory>
     ensures { IfOk result (λ made. terms.tree_of made ≡ tree_of view.entry) }
 {

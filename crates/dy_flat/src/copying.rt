@@ -11,7 +11,7 @@ use crate::views::View;
 use dy_term::Memory;
 use std::alloc::Global;
 
-/// A lent term, in memory of its own. The one refusal is for want of memory.
+/// A lent term, in memory of its own. The one refusal is out of memory.
 pub fn copied(alloc: Global, view: View) -> Result<FlatTerm, Memory>
     ensures { IfOk result (λ made. made ≡ tree_of view.entry) }
 {

@@ -6,7 +6,7 @@ use std::marker::Model;
 
 /// A term, as the run of its nodes in preorder, with each of its texts and names once. Contracts see the tree.
 ///
-/// A term of n nodes takes 8 n bytes and 40 for each different text and name, beside 72 of its own. `from_tree` may
+/// A term of n nodes takes 8 n bytes and 33 for each different text and name, beside 72 of its own. `from_tree` may
 /// keep as much again free. A number of nodes before a part, of texts or of names that is 2^32 or more does not fit:
 /// what would make such a term answers `Memory`. Only `from_tree` and `to_tree` are recursive, as deep as the term.
 #[derive(Debug, Drop)]
@@ -53,7 +53,7 @@ impl FlatTerm {
         }
     }
 
-    /// An equal term, in memory of its own. The one refusal is for want of memory.
+    /// An equal term, in memory of its own. The one refusal is out of memory.
     pub fn copy(&self, alloc: Global) -> Result<FlatTerm, Memory>
         ensures { IfOk result (λ made. made ≡ self.now) }
     {

@@ -54,13 +54,10 @@ impl Run {
     pub(crate) fn with_room(alloc: Global, nodes: usize) -> Result<Run, Memory>
         ensures { IfOk result (λ run. run ≡ []) }
     {
-        match Vec::with_capacity(alloc, nodes) {
-            Ok(nodes) => Ok(Run {
-                nodes,
-                contents: Contents::new(alloc),
-            }),
-            Err(_) => Err(Memory),
-        }
+        Ok(Run {
+            nodes: Vec::with_capacity(alloc, nodes)?,
+            contents: Contents::new(alloc),
+        })
     }
 
     /// The same run, in memory of its own.
