@@ -19,9 +19,9 @@ use Rattle.dy_flat.proofs.WholeRuns.{nonempty, length_whole}
 middle : (A B C : List runs.Node) → take (length B) (drop (length A) (map Some (A ++ (B ++ C)))) ≡ map Some B
 middle A B C =
     let lead : map Some (A ++ (B ++ C)) ≡ map Some A ++ (map Some B ++ map Some C) = map-append Some A (B ++ C) ∙ ap (λ back. map Some A ++ back) (map-append Some B C) in
-    let behind : drop (length A) (map Some (A ++ (B ++ C))) ≡ map Some B ++ map Some C =
+    let after : drop (length A) (map Some (A ++ (B ++ C))) ≡ map Some B ++ map Some C =
     ap (λ n. drop n (map Some (A ++ (B ++ C)))) (sym (length-map A Some)) ∙ ap (drop (length (map Some A))) lead ∙ drop-append_seam (map Some A) (map Some B ++ map Some C) in
-    ap (λ n. take n (drop (length A) (map Some (A ++ (B ++ C))))) (sym (length-map B Some)) ∙ ap (take (length (map Some B))) behind ∙ take-append_seam (map Some B) (map Some C)
+    ap (λ n. take n (drop (length A) (map Some (A ++ (B ++ C))))) (sym (length-map B Some)) ∙ ap (take (length (map Some B))) after ∙ take-append_seam (map Some B) (map Some C)
 
 -- A term whose run stands so in that of a view is a part of the view.
 pub is_part : (view : View) (A C : List runs.Node) (t : trees.Term) (from to : ℕ) → run_of (tree_of view) ≡ A ++ (run_of t ++ C) → from ≡ length A → to ≡ from + length (run_of t) → IsPart view from to t
@@ -36,13 +36,13 @@ is_part view A C t from to split starts ends =
           ∙ ap (λ xs. take (length (run_of t)) (drop (length A) xs)) nodes ∙ middle A (run_of t) C;
     }
 
--- The nodes behind the first one, if the term's run begins with a term.
+-- The nodes after the first one, if the term's run begins with a term.
 pub key_span : (view : View) (n : runs.Node) (key : trees.Term) (C : List runs.Node) → run_of (tree_of view) ≡ n ∷ (run_of key ++ C) → span 1 (map arity (drop 1 view.nodes.now)) ≡ length (run_of key)
 key_span view n key C split =
     let contents = view.contents.now in
-    let behind : read_all contents (drop 1 view.nodes.now) ≡ map Some (run_of key ++ C) =
+    let after : read_all contents (drop 1 view.nodes.now) ≡ map Some (run_of key ++ C) =
     sym (drop-map (read contents) 1 view.nodes.now) ∙ ap (drop 1) (view.whole ∙ ap (map Some) split) in
-    let parts = read_all_parts contents (drop 1 view.nodes.now) (run_of key ++ C) behind in
+    let parts = read_all_parts contents (drop 1 view.nodes.now) (run_of key ++ C) after in
     ap (span 1) parts ∙ span_run key 0 C ∙ ap (λ n. length (run_of key) + n) (span_none (map parts_of C)) ∙ add-zero (length (run_of key))
 
 pub key_len : (view : View) (len : ℕ) (key : trees.Term) → len ≡ span 1 (map arity (take (length view.nodes.now - 1) (drop 1 view.nodes.now))) → span 1 (map arity (drop 1 view.nodes.now)) ≡ length (run_of key) → len ≡ length (run_of key)

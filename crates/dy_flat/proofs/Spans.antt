@@ -83,7 +83,7 @@ read_all_parts contents (node ∷ nodes) (n ∷ m) e =
     let more = read_all_parts contents nodes m (cc) in
     cc
 
--- Two runs, one behind the other, whatever is due before, between and behind them.
+-- Two runs, one after the other, whatever is due before, between and after them.
 joined : (k l m : ℕ) (A B rest : List runs.Node) → span k (map parts_of (A ++ (B ++ rest))) ≡ length A + span l (map parts_of (B ++ rest)) → span l (map parts_of (B ++ rest)) ≡ length B + span m (map parts_of rest) → span k (map parts_of ((A ++ B) ++ rest)) ≡ length (A ++ B) + span m (map parts_of rest)
 joined k l m A B rest front back =
     let one = ap (λ nodes. span k (map parts_of nodes)) (append_assoc A B rest) in
@@ -95,7 +95,7 @@ plus_two n = omega arith
 plus_three : (n : ℕ) → n + 3 ≡ suc (suc (suc n))
 plus_three n = omega arith
 
--- Of the terms that are due, the first takes its run, and the others what is behind it.
+-- Of the terms that are due, the first takes its run, and the others what is after it.
 pub span_run : (t : trees.Term) (due : ℕ) (rest : List runs.Node) → span (suc due) (map parts_of (run_of t ++ rest)) ≡ length (run_of t) + span due (map parts_of rest)
 span_run (trees.Lit text) due rest = ap (λ n. 1 + span n (map parts_of rest)) (add-zero due)
 span_run (trees.Name principal) due rest = ap (λ n. 1 + span n (map parts_of rest)) (add-zero due)

@@ -46,7 +46,8 @@ node_code = code_by (ℕ × (ℕ × List ℕ)) (coded× coded_ℕ (coded× coded
 abbrev pub run_code : Coded (List Node)
 run_code = coded_list node_code
 
-two_runs : (A B rest : List Node) (a b : trees.Term) → terms_of (A ++ (B ++ rest)) ≡ a ∷ terms_of (B ++ rest) → terms_of (B ++ rest) ≡ b ∷ terms_of rest → terms_of ((A ++ B) ++ rest) ≡ a ∷ b ∷ terms_of rest
+two_runs : (A B rest : List Node) (a b : trees.Term) → terms_of (A ++ (B ++ rest)) ≡ a ∷ terms_of (B ++ rest)
+    → terms_of (B ++ rest) ≡ b ∷ terms_of rest → terms_of ((A ++ B) ++ rest) ≡ a ∷ b ∷ terms_of rest
 two_runs A B rest a b front back = ap terms_of (append_assoc A B rest) ∙ front ∙ ap (λ terms. a ∷ terms) back
 
 -- The nodes of a run, and then others, make the term and then what the others make.

@@ -103,7 +103,7 @@ fn empty(alloc: Global) -> Recipe {
     }
 }
 
-/// A recipe with this move behind its own.
+/// A recipe with this move after its own.
 fn and(recipe: Recipe, step: Move) -> Result<Recipe, Memory> {
     let Recipe { mut moves } = recipe;
     match moves.push(step) {
@@ -360,7 +360,7 @@ fn nodes_of(alloc: Global, recipe: &Recipe) -> Result<Option<u32>, Memory> {
     }
 }
 
-fn nodes_behind(alloc: Global, more: Recipe) -> Result<Option<u32>, Memory> {
+fn nodes_after(alloc: Global, more: Recipe) -> Result<Option<u32>, Memory> {
     let Recipe { mut moves } = large(alloc)?;
     match moves.append(more.moves) {
         Ok(()) => nodes_of(alloc, &Recipe { moves }),
@@ -369,16 +369,16 @@ fn nodes_behind(alloc: Global, more: Recipe) -> Result<Option<u32>, Memory> {
 }
 
 fn nodes_at_the_limit(alloc: Global) -> Result<Option<u32>, Memory> {
-    nodes_behind(alloc, one(alloc, Move::Hash(10))?)
+    nodes_after(alloc, one(alloc, Move::Hash(10))?)
 }
 
 fn nodes_past_the_limit(alloc: Global) -> Result<Option<u32>, Memory> {
-    nodes_behind(alloc, two(alloc, Move::Hash(10), Move::Hash(11))?)
+    nodes_after(alloc, two(alloc, Move::Hash(10), Move::Hash(11))?)
 }
 
 /// The last move is small, and the one before it is past the limit.
-fn nodes_behind_the_limit(alloc: Global) -> Result<Option<u32>, Memory> {
-    nodes_behind(
+fn nodes_after_the_limit(alloc: Global) -> Result<Option<u32>, Memory> {
+    nodes_after(
         alloc,
         three(alloc, Move::Hash(10), Move::Hash(11), text(b"x"))?,
     )
@@ -388,5 +388,5 @@ fn nodes_behind_the_limit(alloc: Global) -> Result<Option<u32>, Memory> {
 fn values_at_the_limit(rt: HostRuntime) {
     assert_eq!(rt; nodes_at_the_limit(rt.alloc()), Ok(Some(1024)));
     assert_eq!(rt; nodes_past_the_limit(rt.alloc()), Ok(None));
-    assert_eq!(rt; nodes_behind_the_limit(rt.alloc()), Ok(None));
+    assert_eq!(rt; nodes_after_the_limit(rt.alloc()), Ok(None));
 }

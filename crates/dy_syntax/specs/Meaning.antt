@@ -121,7 +121,8 @@ abbrev pub row_of : row.Row → d.Row
 row_of x = record { text = quote_of x.text; kind = kind_of x.kind; kind_line = x.kind_line; usage = id_of x.usage }
 
 abbrev pub usage_of : usage_decl.UsageDecl → d.UsageDecl
-usage_of x = record { line = x.line; kind = kind_of x.kind; kind_line = x.kind_line; name = id_of x.name; params = map id_of x.params; rows = map row_of x.rows }
+usage_of x =
+    record { line = x.line; kind = kind_of x.kind; kind_line = x.kind_line; name = id_of x.name; params = map id_of x.params; rows = map row_of x.rows }
 
 abbrev pub case_of : case_decl.CaseDecl → d.CaseDecl
 case_of x = record { line = x.line; usage = id_of x.usage; tag = quote_of x.tag; fields = map field_of x.fields; requires_ = map atom_of x.requires_ }
@@ -166,7 +167,10 @@ abbrev pub statement_of : statement.Statement → s.Statement
 statement_of x = record { line = x.line; act = act_of x.act }
 
 abbrev pub handler_of : handler.Handler → s.Handler
-handler_of x = record { line = x.line; name = id_of x.name; on = option_map on_part_of x.on; args = map id_of x.args; recv = option_map id_of x.recv; body = map statement_of x.body }
+handler_of x = record {
+    line = x.line; name = id_of x.name; on = option_map on_part_of x.on; args = map id_of x.args;
+    recv = option_map id_of x.recv; body = map statement_of x.body
+  }
 
 abbrev pub decl_of : decl.Decl → f.Decl
 decl_of (decls.Usage x) = f.Usage (usage_of x)
@@ -211,7 +215,8 @@ abbrev pub on_step_of : on_step.OnStep → p.OnStep
 on_step_of x = record { line = x.line; step = id_of x.step }
 
 abbrev pub action_of : action.Action → p.Action
-action_of (actions.Start principal handler args on msg) = p.Start (id_of principal) (id_of handler) (map id_of args) (option_map on_step_of on) (option_map numbered_of msg)
+action_of (actions.Start principal handler args on msg) =
+    p.Start (id_of principal) (id_of handler) (map id_of args) (option_map on_step_of on) (option_map numbered_of msg)
 action_of (actions.Corrupt principal session version) = p.Corrupt (id_of principal) (id_of session) version
 action_of actions.Forge = p.Forge
 action_of (actions.Inject recipe) = p.Inject (recipe_of recipe)
