@@ -168,9 +168,13 @@ statement_of x = record { line = x.line; act = act_of x.act }
 
 abbrev pub handler_of : handler.Handler → s.Handler
 handler_of x = record {
-    line = x.line; name = id_of x.name; on = option_map on_part_of x.on; args = map id_of x.args;
-    recv = option_map id_of x.recv; body = map statement_of x.body
-  }
+  line = x.line;
+  name = id_of x.name;
+  on = option_map on_part_of x.on;
+  args = map id_of x.args;
+  recv = option_map id_of x.recv;
+  body = map statement_of x.body;
+}
 
 abbrev pub decl_of : decl.Decl → f.Decl
 decl_of (decls.Usage x) = f.Usage (usage_of x)
