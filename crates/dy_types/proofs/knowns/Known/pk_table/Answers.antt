@@ -1,0 +1,10 @@
+use Rattle.dy_types.specs.Claims.{pk_labels}
+use Rattle.dy_types.specs.Meaning.{use_of, claims_of}
+use Rattle.dy_types.proofs.MeetLaws.{IsTableOfMeet-from_met}
+use Rattle.dy_types.proofs.knowns.Known.pk_table.Goals as goal
+
+pub returns : goal.returns
+returns c = λ known h.
+    let usage = use_of c.args.usage.now in
+    IsTableOfMeet-from_met (pk_labels known.claims usage) (pk_labels (claims_of c.args.self.now.claims) usage) c.key_table.result
+    (h.claims.pks usage) (rw c.as_slice.ensures at c.key_table.ensures)
