@@ -9,7 +9,8 @@ use Rattle.dy_entry.specs.LookUps.{is_covered}
 pub data Derives (T : List Entry) : Term → Type 0 where
   literal : (text : List ℕ) → Derives T (Lit text)
   name : (principal : List ℕ) → Derives T (Name principal)
-  sent : (index instance : ℕ) (value : Term) → slice_get T index ≡ Some (Message instance value) → Derives T value
+  sent : (index instance : ℕ) (value : Term) → slice_get T index ≡ Some (Message instance value)
+      → Derives T value
   injected : (index step : ℕ) (value : Term) → slice_get T index ≡ Some (Inject step value) → Derives T value
   certified : (index instance : ℕ) (principal usage : List ℕ) (key : Term)
       → slice_get T index ≡ Some (Cert instance principal usage key) → Derives T key
@@ -32,6 +33,7 @@ pub data Derives (T : List Entry) : Term → Type 0 where
   fst : (first second : Term) → Derives T (Pair first second) → Derives T first
   snd : (first second : Term) → Derives T (Pair first second) → Derives T second
   pdec : (key message : Term) → Derives T (Penc (Pk key) message) → Derives T key → Derives T message
-  adec : (key message associated : Term) → Derives T (Aead key message associated) → Derives T key → Derives T message
+  adec : (key message associated : Term) → Derives T (Aead key message associated) → Derives T key
+      → Derives T message
   ad : (key message associated : Term) → Derives T (Aead key message associated) → Derives T associated
   body : (key message : Term) → Derives T (Sign key message) → Derives T message

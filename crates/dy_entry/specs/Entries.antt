@@ -10,12 +10,14 @@ pub data Entry : Type 0 where
   -- the bytes of the protocol file
   Setup : (input : List ℕ) → Entry
   -- an instance begins, of a handler, by a principal, in a session, with names and perhaps the index of a message
-  Start : (step : ℕ) (handler principal : List ℕ) (session : ℕ) (args : List (List ℕ)) (message : Option ℕ) → Entry
+  Start : (step : ℕ) (handler principal : List ℕ) (session : ℕ) (args : List (List ℕ)) (message : Option ℕ)
+      → Entry
   -- a nonce that a handler makes
   Fresh : (instance : ℕ) (label : Label) (usage : Usage) → Entry
   Message : (instance : ℕ) (value : Term) → Entry
   -- a version of a session's state
-  State : (instance : ℕ) (principal : List ℕ) (session version : ℕ) (tag : List ℕ) (fields : List Term) → Entry
+  State : (instance : ℕ) (principal : List ℕ) (session version : ℕ) (tag : List ℕ) (fields : List Term)
+      → Entry
   Event : (instance : ℕ) (principal name : List ℕ) (args : List Term) → Entry
   Cert : (instance : ℕ) (principal usage : List ℕ) (key : Term) → Entry
   End : (instance : ℕ) (outcome : Outcome) → Entry

@@ -49,7 +49,8 @@ place_of_state principal tag e = None
 -- At this index stands a State of this principal and tag, after what is given in the order of look-ups.
 abbrev pub Fits : List Entry → List ℕ → List ℕ → Option (ℕ × ℕ) → ℕ → ℕ × ℕ → Type 0
 Fits T principal tag from index at =
-    (e : Entry) × (slice_get T index ≡ Some e) × (place_of_state principal tag e ≡ Some at) × (is_after from at ≡ true)
+    (e : Entry) × (slice_get T index ≡ Some e)
+    × (place_of_state principal tag e ≡ Some at) × (is_after from at ≡ true)
 
 -- The index is that of the first State that fits in the order of look-ups, and the least one where several fit alike.
 pub record IsNext (T : List Entry) (principal tag : List ℕ) (from : Option (ℕ × ℕ)) (index : ℕ) : Type 0 where

@@ -35,7 +35,8 @@ pub fn is_covered(entries: &[Entry], principal: &Word, session: u32, version: u3
 }
 
 fn is_covered_by_some(entries: &[Entry], principal: &Word, session: u32, version: u32) -> bool
-    ensures { result ≡ list_any (λ entry. covers_version principal.now session version (entry_of entry)) entries.now }
+    ensures { result
+        ≡ list_any (λ entry. covers_version principal.now session version (entry_of entry)) entries.now }
 {
     entries
         .iter()

@@ -34,7 +34,8 @@ node_of-numbers_of (Meet nodes) = refl
 abbrev pub nodes_code : Coded (List Node)
 nodes_code =
     coded_list (code_by (ℕ × (ℕ × (ℕ × List ℕ)))
-    (coded× coded_ℕ (coded× coded_ℕ (coded× coded_ℕ (coded_list coded_ℕ)))) numbers_of node_of node_of-numbers_of)
+    (coded× coded_ℕ (coded× coded_ℕ (coded× coded_ℕ (coded_list coded_ℕ))))
+    numbers_of node_of node_of-numbers_of)
 
 -- a run stands for its label, and what follows is read after it
 pub labels_from-run_of : (before : List labels.Label) (label : labels.Label) (nodes : List Node)

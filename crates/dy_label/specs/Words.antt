@@ -60,7 +60,8 @@ is_word_open choice corruptions atom = is_open_to corruptions (place_of choice a
 -- The first label implies the second: for every choice and all corruptions, where the one is open so is the other.
 abbrev pub Implies : StaticLabel → StaticLabel → Type 0
 Implies first second = (choice : Choice) (corruptions : List Place)
-    → is_open corruptions (meaning_of choice first) ≡ true → is_open corruptions (meaning_of choice second) ≡ true
+    → is_open corruptions (meaning_of choice first) ≡ true
+    → is_open corruptions (meaning_of choice second) ≡ true
 
 abbrev pub is_version : Place → Bool
 is_version (Principal principal) = false
@@ -69,5 +70,7 @@ is_version (Version principal session version) = true
 
 -- The first label implies the second as far as corruptions of single versions go.
 abbrev pub ImpliesByVersions : StaticLabel → StaticLabel → Type 0
-ImpliesByVersions first second = (choice : Choice) (corruptions : List Place) → list_all is_version corruptions ≡ true
-    → is_open corruptions (meaning_of choice first) ≡ true → is_open corruptions (meaning_of choice second) ≡ true
+ImpliesByVersions first second =
+    (choice : Choice) (corruptions : List Place) → list_all is_version corruptions ≡ true
+    → is_open corruptions (meaning_of choice first) ≡ true
+    → is_open corruptions (meaning_of choice second) ≡ true

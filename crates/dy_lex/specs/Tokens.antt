@@ -42,7 +42,8 @@ pub record Begins (token : Piece) (at line : ℕ) (source rest : List ℕ) : Typ
 abbrev pub Spells : List Piece → ℕ → ℕ → List ℕ → Type 0
 Spells [] at line source = list_all is_blank source ≡ true
 Spells (token ∷ tokens) at line source =
-    (rest : List ℕ) × Begins token at line source rest × Spells tokens (token.at + length token.text) token.line rest
+    (rest : List ℕ) × Begins token at line source rest
+    × Spells tokens (token.at + length token.text) token.line rest
 
 -- Something other than a blank stands here, and no token begins.
 pub record IsNoToken (source : List ℕ) : Type 0 where

@@ -1,4 +1,5 @@
--- How the code reads the text of a term, byte by byte. It mirrors the code: what `TermReading` says of texts is proved of it.
+-- How the code reads the text of a term, byte by byte. It mirrors the code: what `TermReading` says of texts is proved
+-- of it.
 use Rattle.std.specs.Prelude.{◌≡◌, ◌<◌, ◌≤◌, ◌^◌, get_or, take, ℕ, ◌+◌, ◌-◌, ◌*◌, Bool, true, false, not, ◌&&◌, ◌||◌, ◌==◌, nat_eq, nat_le, nat_lt, List, [], ◌∷◌, ◌++◌, codes, length, Option, Some, None, option_map, if◌then◌else◌}
 use Rattle.std.specs.Option.{option_and_then}
 use Rattle.std.specs.List.{starts_with}

@@ -16,7 +16,8 @@ pub fn one_term()
 /// Bytes begin with a term wherever its text stands first and no letter, digit or `_` follows. They begin with at
 /// most one term, which ends at one place.
 pub fn term_ends()
-    ensures ends { (term : Term) (text rest : List ℕ) → IsTextOf term text → begins_with_word_byte rest ≡ false →
+    ensures ends { (term : Term) (text rest : List ℕ) →
+        IsTextOf term text → begins_with_word_byte rest ≡ false →
         StartsWithTerm (text ++ rest) term (length text) }
     ensures place { (bytes : List ℕ) (a b : Term) (m n : ℕ) →
         StartsWithTerm bytes a m → StartsWithTerm bytes b n → m ≡ n }

@@ -93,9 +93,10 @@ fn put_two(
     second: &Term,
 ) -> Result<(), AllocError>
     ensures text { IfOk result (λ _. text.new.items
-        ≡ text.old.items ++ prefix.now ++ term_text (tree_of first.now) ++ codes ", " ++ term_text (tree_of second.now)
-        ++ codes ")") }
-    ensures made { IfOk result (λ _. (is_made (tree_of first.now) ≡ true) × (is_made (tree_of second.now) ≡ true)) }
+        ≡ text.old.items ++ prefix.now ++ term_text (tree_of first.now) ++ codes ", "
+        ++ term_text (tree_of second.now) ++ codes ")") }
+    ensures made { IfOk result (λ _.
+        (is_made (tree_of first.now) ≡ true) × (is_made (tree_of second.now) ≡ true)) }
 {
     text.extend_from_slice(prefix)?;
     put_term(alloc, text, first)?;

@@ -37,7 +37,8 @@ module _ {T I : Type 0} where
   Fits origin log known = (0 < known.parts → IsLive origin log known) × (known.parts ≡ 0 → IsSpent known)
 
   -- In the slot lies a value that stands for the history.
-  abbrev pub IsHome : (T → List I) → (T → T → Type 0) → T → List I → List (maybe.Option (Option T)) → Type 0
+  abbrev pub IsHome : (T → List I) → (T → T → Type 0) → T → List I
+      → List (maybe.Option (Option T)) → Type 0
   IsHome history same_base first log homes =
       (value : T) × (homes ≡ some (Some value) ∷ []) × (history value ≡ log) × same_base first value
 
@@ -74,7 +75,8 @@ module _ {T I : Type 0} where
   AllOrSpent history same_base =
       (origin : Origin T) (s : State (Option T) (Known T I)) → IsTurned history same_base origin s
       → (i : ℕ) (v : Known T I) → get_elem? s.views i ≡ some v
-      → (v.parts ≡ origin.seats) ↔ ((j : ℕ) (u : Known T I) → j ≢ i → get_elem? s.views j ≡ some u → u.parts ≡ 0)
+      → (v.parts ≡ origin.seats)
+      ↔ ((j : ℕ) (u : Known T I) → j ≢ i → get_elem? s.views j ≡ some u → u.parts ≡ 0)
 
   -- In no table that the rule allows do two seats have the turn.
   abbrev pub OneWorks : (T → List I) → (T → T → Type 0) → Type 0

@@ -12,7 +12,8 @@ use crate::turns::Turn;
 use std::marker::Brand;
 
 impl<T: Counted> Turn<T> {
-    /// Makes a seat with this room out of a seat with more room, of which as much and one more is taken. It takes no memory.
+    /// Makes a seat with this room out of a seat with more room, of which as much and one more is taken.
+    /// It takes no memory.
     /// `Full` comes exactly where the seat's room is not above the room asked for, and has the room that is left.
     pub fn split(&self, seat: &mut Seat<T>, room: u32) -> Result<Seat<T>, Full>
         requires of { IsOf self.now seat.old }
@@ -35,7 +36,8 @@ impl<T: Counted> Turn<T> {
         Ok(Seat { token, room })
     }
 
-    /// Joins another seat to a seat, which has then seen what either had seen. What was either's own is its own, and it has
+    /// Joins another seat to a seat, which has then seen what either had seen. What was either's own is its
+    /// own, and it has
     /// the room of both and one more. It takes no memory.
     pub fn join(&self, seat: &mut Seat<T>, other: Seat<T>)
         requires of { IsOf self.now seat.old × IsOf self.now other }

@@ -125,7 +125,8 @@ pub(crate) fn cut<T: Counted, N: Amount>(top: &Top<T>, token: &mut Token<T>, roo
     requires less { room + 1 < token.old.me.0.parts }
     ensures same { IsSame token.old token.new }
     ensures left { token.new.me ≡ (rest_of (room + 1) token.old.me.0, token.old.me.1) }
-    ensures right { (result.table_id ≡ token.old.table_id) × (result.me ≡ (new_seat (room + 1) token.old.me.0, [])) }
+    ensures right { (result.table_id ≡ token.old.table_id)
+        × (result.me ≡ (new_seat (room + 1) token.old.me.0, [])) }
 {
     top.split_seat::<Cut<N>>(token)
 }

@@ -34,7 +34,8 @@ impl<T: Counted> Turn<T> {
         }
     }
 
-    /// Makes the history that of the value that is held, which has one item more than the seat has seen. That item is the
+    /// Makes the history that of the value that is held, which has one item more than the seat has seen.
+    /// That item is the
     /// seat's own.
     pub fn mark(&self, seat: &mut Seat<T>, held: &Held<T>)
         requires of { IsOf self.now seat.old }

@@ -13,7 +13,8 @@ pub record StaticUse : Type 0 where
 abbrev pub is_same_use : StaticUse → StaticUse → Bool
 is_same_use usage other = bytes_eq usage.usage other.usage && bytes_eq usage.args other.args
 
--- What is claimed of a value: it has a usage; or it is the public (or the verification) key of a key with a usage, whose label, when
+-- What is claimed of a value: it has a usage; or it is the public (or the verification) key of a key with a usage,
+-- whose label, when
 -- open, opens this one.
 pub data ClaimOf (L : Type 0) : Type 0 where
   Use : (usage : StaticUse) → ClaimOf L
@@ -83,7 +84,8 @@ MeetImplies (label ∷ labels) weaker = Implies (meet_of label labels) weaker
 abbrev pub HasUse : Known → StaticUse → Type 0
 HasUse known usage = Contains (uses_in known.claims) usage
 
--- The value is a public key of this usage, of a key whose label, when open, opens this one. Claims on keys of one usage are one, with
+-- The value is a public key of this usage, of a key whose label, when open, opens this one. Claims on keys of one
+-- usage are one, with
 -- the meet of their labels.
 abbrev pub HasPk : Known → StaticLabel → StaticUse → Type 0
 HasPk known label usage = MeetImplies (pk_labels known.claims usage) label
@@ -94,7 +96,11 @@ HasVk known label usage = MeetImplies (vk_labels known.claims usage) label
 
 -- the knowledge of two values that are one
 abbrev pub identified : Known → Known → Known
-identified first second = record { hi = Join first.hi second.hi; lo = Meet first.lo second.lo; claims = first.claims ++ second.claims }
+identified first second = record {
+  hi = Join first.hi second.hi;
+  lo = Meet first.lo second.lo;
+  claims = first.claims ++ second.claims;
+}
 
 -- The second is weaker than the first, or says the same.
 pub record IsWeaker (stronger weaker : Known) : Type 0 where

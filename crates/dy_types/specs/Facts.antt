@@ -29,7 +29,8 @@ guard_of first event values fact = if is_fact_of first event values fact then So
 abbrev pub guards_of : {L : Type 0} → List ℕ → List (FactOf L) → List ℕ → List ℕ → List L
 guards_of first facts event values = filter_map (guard_of first event values) facts
 
--- The event is known to have happened with these values, or else the label is open. Facts of one event and one list of values are
+-- The event is known to have happened with these values, or else the label is open. Facts of one event and one list
+-- of values are
 -- one, with the meet of their guards. For each variable it is said which is the first that is one with it.
 abbrev pub HasFact : List ℕ → List Fact → List ℕ → List ℕ → StaticLabel → Type 0
 HasFact first facts event values label = MeetImplies (guards_of first facts event values) label

@@ -41,9 +41,14 @@ declared_claims (Pk label usage) guard = claims.Pk (Join label guard) usage ∷ 
 declared_claims (Vk label usage) guard = claims.Vk (Join label guard) usage ∷ []
 declared_claims other guard = []
 
--- The knowledge of a field of what was opened: who has the key may have the field, and where the guard is open it may be forged.
+-- The knowledge of a field of what was opened: who has the key may have the field, and where the guard is open it may
+-- be forged.
 abbrev pub narrowed : Declared → StaticLabel → StaticLabel → Known
-narrowed type hi guard = record { hi = Join (declared_hi type) hi; lo = Join (declared_lo type) guard; claims = declared_claims type guard }
+narrowed type hi guard = record {
+  hi = Join (declared_hi type) hi;
+  lo = Join (declared_lo type) guard;
+  claims = declared_claims type guard;
+}
 
 -- A value of which this is known fits a field of this type.
 abbrev pub Fits : Known → Declared → Type 0

@@ -8,7 +8,8 @@ use Rattle.dy_types.specs.Claims.{StaticUse, ClaimOf, Use, Pk, Vk, uses_in, pk_l
 use Rattle.dy_types.specs.Tables.{Table, is_empty}
 use Rattle.dy_types.specs.MirrorMeets.{key_labels}
 
--- All of the one tables are set in the rows in which all of the others are, and there are some exactly where there are others.
+-- All of the one tables are set in the rows in which all of the others are, and there are some exactly where there
+-- are others.
 pub record MeetsAlike (tables others : List Table) : Type 0 where
   pub empty : is_empty tables ≡ is_empty others
   pub rows : (row : ℕ) → row < ROWS
@@ -17,13 +18,15 @@ pub record MeetsAlike (tables others : List Table) : Type 0 where
 -- Of each usage the claims say the same.
 pub record SayTheSame (kept others : List (ClaimOf Table)) : Type 0 where
   pub uses : (usage : StaticUse) → Contains (uses_in kept) usage ↔ Contains (uses_in others) usage
-  pub keys : (side : Side) (usage : StaticUse) → MeetsAlike (key_labels side kept usage) (key_labels side others usage)
+  pub keys : (side : Side) (usage : StaticUse)
+      → MeetsAlike (key_labels side kept usage) (key_labels side others usage)
 
 -- There are tables, and this one is set in the rows in which all of them are.
 pub record CoversMeet (tables : List Table) (table : Table) : Type 0 where
   pub some : is_empty tables ≡ false
   pub rows : (row : ℕ) → row < ROWS
-      → (list_all (λ other. value_at other row) tables && value_at table row) ≡ list_all (λ other. value_at other row) tables
+      → (list_all (λ other. value_at other row) tables && value_at table row)
+      ≡ list_all (λ other. value_at other row) tables
 
 abbrev pub SaysNothingNew : List (ClaimOf Table) → ClaimOf Table → Type 0
 SaysNothingNew kept (Use usage) = Contains (uses_in kept) usage

@@ -21,4 +21,5 @@ key_labels side claims usage = filter_map (key_label side usage) claims
 abbrev pub MeetIn : List Table → Option Table → Type 0
 MeetIn tables None = is_empty tables ≡ true
 MeetIn tables (Some met) =
-    (is_empty tables ≡ false) × ((row : ℕ) → row < ROWS → value_at met row ≡ list_all (λ table. value_at table row) tables)
+    (is_empty tables ≡ false)
+    × ((row : ℕ) → row < ROWS → value_at met row ≡ list_all (λ table. value_at table row) tables)

@@ -23,7 +23,8 @@ abbrev pub is_empty : {A : Type 0} → List A → Bool
 is_empty [] = true
 is_empty (x ∷ xs) = false
 
--- All of these tables are set in the rows in which all of these labels are open. There are tables exactly where there are labels.
+-- All of these tables are set in the rows in which all of these labels are open. There are tables exactly where there
+-- are labels.
 pub record MeetHasTables (labels : List StaticLabel) (tables : List Table) : Type 0 where
   pub names : list_all (uses_names_below NAMES) labels ≡ true
   pub empty : is_empty tables ≡ is_empty labels

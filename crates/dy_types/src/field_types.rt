@@ -30,7 +30,8 @@ pub enum Declared {
 impl Declared {
     /// The table of the label that, where it is open, opens the label of a field of this type.
     fn hi(&self) -> Table
-        ensures { (type : types.Declared) → TypeHasTable type (type_of self.now) → HasTable (declared_hi type) result }
+        ensures { (type : types.Declared) → TypeHasTable type (type_of self.now) →
+            HasTable (declared_hi type) result }
     {
         match self {
             Declared::Name => public_table(),
@@ -41,7 +42,8 @@ impl Declared {
 
     /// The table of the label that is open where that of a field of this type is.
     fn lo(&self) -> Table
-        ensures { (type : types.Declared) → TypeHasTable type (type_of self.now) → HasTable (declared_lo type) result }
+        ensures { (type : types.Declared) → TypeHasTable type (type_of self.now) →
+            HasTable (declared_lo type) result }
     {
         match self {
             Declared::Secret(label) | Declared::Key(label, _) => *label,

@@ -18,7 +18,8 @@ pub fn what_a_meet_implies()
 /// Knowledge is no weaker than itself, and what is weaker than weaker knowledge is weaker.
 pub fn weaker_knowledge_is_ordered()
     ensures itself { (known : Known) → IsWeaker known known }
-    ensures onward { (first second third : Known) → IsWeaker first second → IsWeaker second third → IsWeaker first third }
+    ensures onward { (first second third : Known) → IsWeaker first second → IsWeaker second third →
+        IsWeaker first third }
 {}
 
 /// What weaker knowledge has or fits, stronger knowledge has and fits.
