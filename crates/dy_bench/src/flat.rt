@@ -1,23 +1,16 @@
-use crate::{ROUNDS, Times, wanting};
+use crate::{Leaves, ROUNDS, Times, text, wanting};
 use dy_flat::{FlatTerm, View, first, lit, nonce, pair, pk, second};
-use dy_term::{Memory, Text};
+use dy_term::Memory;
 use std::alloc::Global;
 use std::io;
 use std::time::Instant;
 
-/// A nonce, or at odd numbers a literal. The one of number 0 has a key around it, so that the nodes are 1,024.
-fn leaf(alloc: Global, number: u32) -> Result<FlatTerm, Memory> {
-    if number % 2 == 1 {
-        let text: &[u8] = if number % 4 == 1 { b"m1" } else { b"m2" };
-        if let Some(text) = Text::new(text) {
-            return lit(alloc, &text);
-        }
-    }
-    let inner = nonce(alloc, number)?;
-    if number == 0 {
-        pk(alloc, inner.whole())
-    } else {
-        Ok(inner)
+/// A leaf of this number. Of mixed leaves the one of number 0 has a key around it, so that the nodes are 1,024.
+fn leaf(alloc: Global, leaves: Leaves, number: u32) -> Result<FlatTerm, Memory> {
+    match leaves {
+        Leaves::Mixed if number == 0 => pk(alloc, nonce(alloc, number)?.whole()),
+        Leaves::Mixed if number % 2 == 0 => nonce(alloc, number),
+        _ => lit(alloc, &text(alloc, leaves, number)?),
     }
 }
 
@@ -36,10 +29,10 @@ fn pairs(alloc: Global, level: &[FlatTerm]) -> Result<Vec<FlatTerm>, Memory> {
 }
 
 /// 512 leaves in pairs of pairs.
-fn built(alloc: Global) -> Result<FlatTerm, Memory> {
+pub(crate) fn built(alloc: Global, leaves: Leaves) -> Result<FlatTerm, Memory> {
     let mut level = Vec::new(alloc);
     for number in 0..512 {
-        if level.push(leaf(alloc, number)?).is_err() {
+        if level.push(leaf(alloc, leaves, number)?).is_err() {
             return Err(Memory);
         }
     }
@@ -77,11 +70,11 @@ fn leaves(alloc: Global, term: View) -> Result<u32, Memory> {
     Ok(found)
 }
 
-pub(crate) fn measured(rt: &HostRuntime) -> io::Result<Times> {
+pub(crate) fn measured(rt: &HostRuntime, kind: Leaves) -> io::Result<Times> {
     let start = Instant::now(rt)?;
-    let mut term = built(rt.alloc()).map_err(wanting)?;
+    let mut term = built(rt.alloc(), kind).map_err(wanting)?;
     for _ in 1..ROUNDS {
-        term = built(rt.alloc()).map_err(wanting)?;
+        term = built(rt.alloc(), kind).map_err(wanting)?;
     }
     let building = start.elapsed(rt)?;
     let start = Instant::now(rt)?;

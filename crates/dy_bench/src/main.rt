@@ -1,16 +1,39 @@
 //! Measures parts of the library, one word for each. No contract claims anything of the times.
 #![tactic(auto)]
 
+mod copying;
 mod flat;
 mod lexing;
 mod tree;
 
-use dy_term::Memory;
+use dy_term::{Memory, Text};
+use std::alloc::Global;
 use std::time::Duration;
 use std::{env, io};
 
 /// How often each term is built, and how often it is taken apart.
 pub(crate) const ROUNDS: u32 = 10_000;
+
+/// Which leaves a term is built of.
+#[derive(Clone, Copy)]
+pub(crate) enum Leaves {
+    /// Nonces, and at odd numbers literals of two texts.
+    Mixed,
+    /// Literals, each of a text of its own.
+    Literals,
+}
+
+/// The text of a literal.
+pub(crate) fn text(alloc: Global, leaves: Leaves, number: u32) -> Result<Text, Memory> {
+    let text = match leaves {
+        Leaves::Mixed => Text::new(if number % 4 == 1 { b"m1" } else { b"m2" }),
+        Leaves::Literals => Text::new(format!(in alloc; "m{number}")?.as_bytes()),
+    };
+    match text {
+        Some(text) => Ok(text),
+        None => Err(Memory),
+    }
+}
 
 /// What took how long.
 #[derive(Drop)]
@@ -43,15 +66,24 @@ fn print_lexing(rt: &HostRuntime, times: lexing::Times) -> io::Result<()> {
     )
 }
 
+fn print_copying(rt: &HostRuntime, times: copying::Times) -> io::Result<()> {
+    let terms = times.terms.as_micros();
+    let bytes = times.bytes.as_micros();
+    println!(rt; "copying {terms} bytes {bytes}")
+}
+
 fn main(rt: HostRuntime) -> io::Result<()> {
     let word = match env::args(&rt)?.nth(1) {
         Some(word) => word,
         None => String::new(rt.alloc()),
     };
     match word.as_str() {
-        "flat" => print(&rt, "flat", flat::measured(&rt)?),
+        "copy" => print_copying(&rt, copying::measured(&rt)?),
+        "flat" => print(&rt, "flat", flat::measured(&rt, Leaves::Mixed)?),
+        "flat-literals" => print(&rt, "flat", flat::measured(&rt, Leaves::Literals)?),
         "lex" => print_lexing(&rt, lexing::measured(&rt)?),
-        "tree" => print(&rt, "tree", tree::measured(&rt)?),
-        _ => println!(rt; "usage: dy_bench flat|lex|tree"),
+        "tree" => print(&rt, "tree", tree::measured(&rt, Leaves::Mixed)?),
+        "tree-literals" => print(&rt, "tree", tree::measured(&rt, Leaves::Literals)?),
+        _ => println!(rt; "usage: dy_bench copy|flat|flat-literals|lex|tree|tree-literals"),
     }
 }

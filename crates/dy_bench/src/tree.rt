@@ -1,5 +1,5 @@
-use crate::{ROUNDS, Times, wanting};
-use dy_term::{Memory, Term, Text};
+use crate::{Leaves, ROUNDS, Times, text, wanting};
+use dy_term::{Memory, Term};
 use std::alloc::Global;
 use std::io;
 use std::time::Instant;
@@ -11,18 +11,12 @@ fn boxed(alloc: Global, term: Term) -> Result<Box<Term>, Memory> {
     }
 }
 
-/// A nonce, or at odd numbers a literal. The one of number 0 has a key around it, so that the nodes are 1,024.
-fn leaf(alloc: Global, number: u32) -> Result<Term, Memory> {
-    if number % 2 == 1 {
-        let text: &[u8] = if number % 4 == 1 { b"m1" } else { b"m2" };
-        if let Some(text) = Text::new(text) {
-            return Ok(Term::Lit(text));
-        }
-    }
-    if number == 0 {
-        Ok(Term::Pk(boxed(alloc, Term::Nonce(number))?))
-    } else {
-        Ok(Term::Nonce(number))
+/// A leaf of this number. Of mixed leaves the one of number 0 has a key around it, so that the nodes are 1,024.
+fn leaf(alloc: Global, leaves: Leaves, number: u32) -> Result<Term, Memory> {
+    match leaves {
+        Leaves::Mixed if number == 0 => Ok(Term::Pk(boxed(alloc, Term::Nonce(number))?)),
+        Leaves::Mixed if number % 2 == 0 => Ok(Term::Nonce(number)),
+        _ => Ok(Term::Lit(text(alloc, leaves, number)?)),
     }
 }
 
@@ -57,10 +51,10 @@ fn pairs(alloc: Global, level: &[Term]) -> Result<Vec<Term>, Memory> {
 }
 
 /// 512 leaves in pairs of pairs.
-fn built(alloc: Global) -> Result<Term, Memory> {
+fn built(alloc: Global, leaves: Leaves) -> Result<Term, Memory> {
     let mut level = Vec::new(alloc);
     for number in 0..512 {
-        if level.push(leaf(alloc, number)?).is_err() {
+        if level.push(leaf(alloc, leaves, number)?).is_err() {
             return Err(Memory);
         }
     }
@@ -98,11 +92,11 @@ fn leaves(alloc: Global, term: &Term) -> Result<u32, Memory> {
     Ok(found)
 }
 
-pub(crate) fn measured(rt: &HostRuntime) -> io::Result<Times> {
+pub(crate) fn measured(rt: &HostRuntime, kind: Leaves) -> io::Result<Times> {
     let start = Instant::now(rt)?;
-    let mut term = built(rt.alloc()).map_err(wanting)?;
+    let mut term = built(rt.alloc(), kind).map_err(wanting)?;
     for _ in 1..ROUNDS {
-        term = built(rt.alloc()).map_err(wanting)?;
+        term = built(rt.alloc(), kind).map_err(wanting)?;
     }
     let building = start.elapsed(rt)?;
     let start = Instant::now(rt)?;

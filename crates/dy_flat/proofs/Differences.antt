@@ -6,20 +6,20 @@ use Rattle.std.specs.Str.{bytes_eq}
 use Rattle.std.proofs.lemmas.Bool.{and_parts, or_parts, not-true}
 use Rattle.dy_flat.specs.Differing.{all_differ}
 
-pub any_push : (p : List ℕ → Bool) (xs : List (List ℕ)) (y : List ℕ) → list_any p xs ≡ false → p y ≡ false → list_any p (xs ++ y ∷ []) ≡ false
+pub any_push : {A : Type 0} (p : A → Bool) (xs : List A) (y : A) → list_any p xs ≡ false → p y ≡ false → list_any p (xs ++ y ∷ []) ≡ false
 any_push p [] y none last = rw last refl
 any_push p (x ∷ xs) y none last =
     let parts = or_parts (p x) (list_any p xs) none in
     rw (parts.0, any_push p xs y parts.1 last) refl
 
-differ_push : (xs : List (List ℕ)) (y : List ℕ) → all_differ xs ≡ true → list_any (λ kept. bytes_eq kept y) xs ≡ false → all_differ (xs ++ y ∷ []) ≡ true
-differ_push [] y once none = refl
-differ_push (x ∷ xs) y once none =
-    let known = and_parts (not (list_any (bytes_eq x) xs)) (all_differ xs) once in
-    let others = or_parts (bytes_eq x y) (list_any (λ kept. bytes_eq kept y) xs) none in
-    rw (any_push (bytes_eq x) xs y (not-true (list_any (bytes_eq x) xs) known.0) others.0, differ_push xs y known.1 others.1) refl
+differ_push : {A : Type 0} (bytes : A → List ℕ) (xs : List A) (y : A) → all_differ bytes xs ≡ true → list_any (λ kept. bytes_eq (bytes kept) (bytes y)) xs ≡ false → all_differ bytes (xs ++ y ∷ []) ≡ true
+differ_push bytes [] y once none = refl
+differ_push bytes (x ∷ xs) y once none =
+    let known = and_parts (not (list_any (λ other. bytes_eq (bytes x) (bytes other)) xs)) (all_differ bytes xs) once in
+    let others = or_parts (bytes_eq (bytes x) (bytes y)) (list_any (λ kept. bytes_eq (bytes kept) (bytes y)) xs) none in
+    rw (any_push (λ other. bytes_eq (bytes x) (bytes other)) xs y (not-true (list_any (λ other. bytes_eq (bytes x) (bytes other)) xs) known.0) others.0, differ_push bytes xs y known.1 others.1) refl
 
 -- whether or not it was added
-pub differ_added : (xs more : List (List ℕ)) (y : List ℕ) (added : Bool) → more ≡ (if added then xs ++ y ∷ [] else xs) → all_differ xs ≡ true → list_any (λ kept. bytes_eq kept y) xs ≡ false → all_differ more ≡ true
-differ_added xs more y true is once none = rw is (differ_push xs y once none)
-differ_added xs more y false is once none = rw is once
+pub differ_added : {A : Type 0} (bytes : A → List ℕ) (xs more : List A) (y : A) (added : Bool) → more ≡ (if added then xs ++ y ∷ [] else xs) → all_differ bytes xs ≡ true → list_any (λ kept. bytes_eq (bytes kept) (bytes y)) xs ≡ false → all_differ bytes more ≡ true
+differ_added bytes xs more y true is once none = rw is (differ_push bytes xs y once none)
+differ_added bytes xs more y false is once none = rw is once

@@ -1,9 +1,12 @@
 pub mod BuiltRuns
 pub mod Differences
+pub mod Indexed
 pub mod Lookups
 pub mod PartRuns
 pub mod PartSizes
 pub mod Spans
 pub mod TupleFields
 pub mod TupleRuns
+pub mod WalkedRuns
+pub mod WalkedTerms
 pub mod WholeRuns

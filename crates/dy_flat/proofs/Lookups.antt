@@ -9,6 +9,7 @@ use Rattle.dy_flat.specs.declared.flat_nodes.Node.TheVariants as code
 use Rattle.dy_flat.specs.declared.contents.Contents.{Contents}
 use Rattle.dy_flat.specs.Runs as runs
 use Rattle.dy_flat.specs.Meaning.{read, read_all, known, is_plain, plain}
+use Rattle.dy_flat.specs.Extending.{Extends}
 use Rattle.dy_flat.specs.Growth.{Grows}
 
 -- ---- what is known
@@ -28,16 +29,13 @@ map-Some-same m n e = sym (known-map m) ∙ ap known e ∙ known-map n
 
 -- ---- contents that grow
 
+pub extends_same : {A : Type 0} (old new : List A) → new ≡ old → Extends old new
+extends_same old new is = record { more = []; is = is ∙ sym (append-nil old) }
+
 pub same_grows : (old new : Contents) → new.texts.items ≡ old.texts.items → new.names.items ≡ old.names.items → Grows old new
-same_grows old new texts names = record { more_texts = []; more_names = []; texts = texts ∙ sym (append-nil old.texts.items); names = names ∙ sym (append-nil old.names.items) }
+same_grows old new texts names = record { texts = extends_same _ _ texts; names = extends_same _ _ names }
 
-pub text_grows : (old new : Contents) (text : List ℕ) → new.texts.items ≡ old.texts.items ++ text ∷ [] → new.names.items ≡ old.names.items → Grows old new
-text_grows old new text texts names = record { more_texts = text ∷ []; more_names = []; texts = texts; names = names ∙ sym (append-nil old.names.items) }
-
-pub name_grows : (old new : Contents) (name : List ℕ) → new.texts.items ≡ old.texts.items → new.names.items ≡ old.names.items ++ name ∷ [] → Grows old new
-name_grows old new name texts names = record { more_texts = []; more_names = name ∷ []; texts = texts ∙ sym (append-nil old.texts.items); names = names }
-
-pub slice_get-last : (xs : List (List ℕ)) (x : List ℕ) (k : ℕ) → k ≡ length xs → slice_get (xs ++ x ∷ []) k ≡ Some x
+pub slice_get-last : {A : Type 0} (xs : List A) (x : A) (k : ℕ) → k ≡ length xs → slice_get (xs ++ x ∷ []) k ≡ Some x
 slice_get-last [] x k is = rw is refl
 slice_get-last (y ∷ xs) x zero is = absurd (omega (arith, is))
 slice_get-last (y ∷ xs) x (suc k) is = slice_get-last xs x k (omega (arith, is))
@@ -53,8 +51,8 @@ looked_up-more make xs ys zs grown i n e =
     [ Some x ↦ λ is made. rw (grown, slice_get-more xs ys i x is) made | None ↦ λ is made. cc ] refl e
 
 pub read-grows : (old new : Contents) → Grows old new → (node : Node) (n : runs.Node) → read old node ≡ Some n → read new node ≡ Some n
-read-grows old new grows (code.Lit place) n e = looked_up-more runs.Lit _ _ _ grows.texts place n e
-read-grows old new grows (code.Name place) n e = looked_up-more runs.Name _ _ _ grows.names place n e
+read-grows old new grows (code.Lit place) n e = looked_up-more runs.Lit _ _ _ grows.texts.is place n e
+read-grows old new grows (code.Name place) n e = looked_up-more runs.Name _ _ _ grows.names.is place n e
 read-grows old new grows (code.Nonce index) n e = e
 read-grows old new grows (code.Pair before) n e = e
 read-grows old new grows code.Pk n e = e
@@ -63,7 +61,7 @@ read-grows old new grows (code.Penc before) n e = e
 read-grows old new grows (code.Aead before) n e = e
 read-grows old new grows (code.Sign before) n e = e
 read-grows old new grows (code.Mac before) n e = e
-read-grows old new grows (code.Kdf place) n e = looked_up-more runs.Kdf _ _ _ grows.texts place n e
+read-grows old new grows (code.Kdf place) n e = looked_up-more runs.Kdf _ _ _ grows.texts.is place n e
 read-grows old new grows code.Hash n e = e
 
 pub read_all-grows : (old new : Contents) → Grows old new → (nodes : List Node) (m : List runs.Node) → read_all old nodes ≡ map Some m → read_all new nodes ≡ map Some m

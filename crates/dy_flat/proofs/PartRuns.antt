@@ -8,7 +8,8 @@ use Rattle.dy_term.specs.Terms as trees
 use Rattle.dy_flat.specs.declared.views.View.{View}
 use Rattle.dy_flat.specs.declared.flat_nodes.Node.TheVariants as code
 use Rattle.dy_flat.specs.Runs as runs
-use Rattle.dy_flat.specs.Runs.{run_of, span}
+use Rattle.dy_flat.specs.Runs.{run_of}
+use Rattle.dy_flat.specs.MirrorSpans.{span}
 use Rattle.dy_flat.specs.Meaning.{read, read_all, arity}
 use Rattle.dy_flat.specs.Views.{tree_of}
 use Rattle.dy_flat.specs.PartMeaning.{IsPart}

@@ -1,5 +1,5 @@
 -- A part is smaller than the whole.
-use Rattle.std.proofs.Common.{◌≡◌, ℕ, zero, suc, ◌<◌, Some, ap, sym, arith}
+use Rattle.std.proofs.Common.{◌≡◌, ℕ, zero, suc, ◌<◌, Some, ap, arith}
 use Rattle.std.specs.Prelude.{slice_get}
 use Rattle.dy_term.specs.Terms.{Term, Lit, Name, Nonce, Pair, Pk, Vk, Penc, Aead, Sign, Mac, Kdf, Hash, size}
 use Rattle.dy_flat.specs.Parts.{parts_of}

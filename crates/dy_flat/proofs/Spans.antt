@@ -7,7 +7,8 @@ use Rattle.dy_flat.specs.declared.flat_nodes.Node.{Node}
 use Rattle.dy_flat.specs.declared.flat_nodes.Node.TheVariants as code
 use Rattle.dy_flat.specs.declared.contents.Contents.{Contents}
 use Rattle.dy_flat.specs.Runs as runs
-use Rattle.dy_flat.specs.Runs.{run_of, span}
+use Rattle.dy_flat.specs.Runs.{run_of}
+use Rattle.dy_flat.specs.MirrorSpans.{span}
 use Rattle.dy_flat.specs.Meaning.{read, read_all, arity}
 
 pub arity_most : (node : Node) → arity node ≤ 3

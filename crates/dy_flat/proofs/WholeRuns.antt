@@ -7,7 +7,7 @@ use Rattle.dy_flat.specs.declared.flat_nodes.Node.{Node}
 use Rattle.dy_flat.specs.declared.contents.Contents.{Contents}
 use Rattle.dy_flat.specs.Runs as runs
 use Rattle.dy_flat.specs.Runs.{run_of, term_of}
-use Rattle.dy_flat.specs.Codes.{term_of-run_of}
+use Rattle.dy_flat.specs.MirrorCodes.{term_of-run_of}
 use Rattle.dy_flat.specs.Meaning.{read, read_all, known, IsWhole}
 use Rattle.dy_flat.proofs.Lookups.{known_is}
 

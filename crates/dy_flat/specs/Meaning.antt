@@ -1,11 +1,12 @@
 -- What nodes, views and shapes of the code stand for.
-use Rattle.std.specs.Prelude.{◌≡◌, ℕ, Bool, true, false, Option, Some, None, List, [], ◌∷◌, map, slice_get}
+use Rattle.std.specs.Prelude.{◌≡◌, ℕ, Bool, true, false, Option, Some, None}
+use Rattle.std.specs.Prelude.{List, [], ◌∷◌, map, slice_get}
 use Rattle.std.specs.Option.{option_map}
 use Rattle.dy_flat.specs.declared.flat_nodes.Node.{Node}
 use Rattle.dy_flat.specs.declared.flat_nodes.Node.TheVariants as code
 use Rattle.dy_flat.specs.declared.contents.Contents.{Contents}
 use Rattle.dy_flat.specs.Runs.{run_of, term_of}
-use Rattle.dy_flat.specs.Codes.{node_code}
+use Rattle.dy_flat.specs.MirrorCodes.{node_code}
 use Rattle.std.specs.Coded.{Coded-set, coded_list, coded_option}
 use Rattle.dy_flat.specs.Runs as runs
 

@@ -15,7 +15,8 @@ aead_message _ _ = None
 
 -- The same, where the associated data are these.
 abbrev pub aead_message_with : Term → Term → Term → Option Term
-aead_message_with (Aead own message associated) key wanted = if is_same own key && is_same associated wanted then Some message else None
+aead_message_with (Aead own message associated) key wanted =
+    if is_same own key && is_same associated wanted then Some message else None
 aead_message_with _ _ _ = None
 
 -- what was signed, which everyone can read

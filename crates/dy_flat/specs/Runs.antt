@@ -1,5 +1,5 @@
 -- The run of a term: its nodes in preorder, each without its parts.
-use Rattle.std.specs.Prelude.{◌≡◌, ℕ, zero, suc, ◌+◌, List, [], ◌∷◌, ◌++◌, length}
+use Rattle.std.specs.Prelude.{◌≡◌, ℕ, List, [], ◌∷◌, ◌++◌, length}
 use Rattle.dy_term.specs.Terms as trees
 
 -- A node with two or three parts that are lent tells how many nodes stand before the last of them.
@@ -25,7 +25,8 @@ run_of (trees.Pair first second) = Pair (length (run_of first)) ∷ (run_of firs
 run_of (trees.Pk key) = Pk ∷ run_of key
 run_of (trees.Vk key) = Vk ∷ run_of key
 run_of (trees.Penc to message) = Penc (length (run_of to)) ∷ (run_of to ++ run_of message)
-run_of (trees.Aead key message associated) = Aead (length (run_of key ++ run_of message)) ∷ (run_of key ++ (run_of message ++ run_of associated))
+run_of (trees.Aead key message associated) =
+    Aead (length (run_of key ++ run_of message)) ∷ (run_of key ++ (run_of message ++ run_of associated))
 run_of (trees.Sign key message) = Sign (length (run_of key)) ∷ (run_of key ++ run_of message)
 run_of (trees.Mac key message) = Mac (length (run_of key)) ∷ (run_of key ++ run_of message)
 run_of (trees.Kdf key context input) = Kdf context ∷ (run_of key ++ run_of input)
@@ -63,12 +64,6 @@ term_of nodes = first_of (terms_of nodes)
 -- The nodes are the run of one whole term.
 abbrev pub IsRun : List Node → Type 0
 IsRun nodes = nodes ≡ run_of (term_of nodes)
-
--- How many nodes some terms take, by how many parts each node has, where the list does not end before.
-abbrev pub span : ℕ → List ℕ → ℕ
-span due [] = 0
-span zero (parts ∷ more) = 0
-span (suc due) (parts ∷ more) = 1 + span (due + parts) more
 
 -- the term that a node makes of its parts
 abbrev pub made_of : Node → List trees.Term → trees.Term

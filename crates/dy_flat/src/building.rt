@@ -5,9 +5,9 @@ ghost use Rattle.dy_flat.specs.Runs.{run_of, made_of};
 ghost use Rattle.dy_flat.specs.Meaning.{is_plain, plain};
 ghost use Rattle.dy_flat.specs.Views.{tree_of};
 
-use crate::contents::as_number;
 use crate::flat_nodes::Node;
 use crate::flat_terms::FlatTerm;
+use crate::places::as_number;
 use crate::runs::Run;
 use crate::views::View;
 use dy_term::{Memory, Text, Word};
@@ -35,7 +35,8 @@ fn with_one(alloc: Global, node: Node, part: View) -> Result<FlatTerm, Memory>
 /// A term of a node with two parts.
 fn with_two(alloc: Global, node: Node, a: View, b: View) -> Result<FlatTerm, Memory>
     requires plain { is_plain node ≡ true }
-    requires fits { run_of (made_of (plain node) (tree_of a ∷ tree_of b ∷ [])) ≡ plain node ∷ (run_of (tree_of a) ++ run_of (tree_of b)) }
+    requires fits { run_of (made_of (plain node) (tree_of a ∷ tree_of b ∷ []))
+        ≡ plain node ∷ (run_of (tree_of a) ++ run_of (tree_of b)) }
     ensures { IfOk result (λ made. made ≡ made_of (plain node) (tree_of a.entry ∷ tree_of b.entry ∷ [])) }
 {
     let mut run = Run::with_room(alloc, 1 + a.nodes.len() + b.nodes.len())?;

@@ -4,10 +4,10 @@ ghost use Rattle.dy_flat.specs.Meaning.{is_plain, plain};
 ghost use Rattle.dy_flat.specs.Runs.{run_of};
 ghost use Rattle.dy_flat.specs.Views.{tree_of};
 
-use crate::contents::as_number;
 use crate::flat_nodes::Node;
 use crate::flat_terms::FlatTerm;
 use crate::parts::{Parts, take_apart};
+use crate::places::as_number;
 use crate::runs::Run;
 use crate::views::View;
 use dy_term::{Memory, Term};
@@ -70,7 +70,8 @@ fn push_one(run: &mut Run, part: &Term, node: Node) -> Result<(), Memory>
 /// Adds the nodes of two parts, the last one first, and answers how many the first part has.
 #[cycle(flatten)]
 fn push_two(run: &mut Run, first: &Term, second: &Term) -> Result<u32, Memory>
-    ensures nodes { IfOk result (λ _. run.new ≡ run.old ++ reverse (run_of (terms.tree_of first.now) ++ run_of (terms.tree_of second.now))) }
+    ensures nodes { IfOk result (λ _.
+        run.new ≡ run.old ++ reverse (run_of (terms.tree_of first.now) ++ run_of (terms.tree_of second.now))) }
     ensures before { IfOk result (λ before. before ≡ length (run_of (terms.tree_of first.now))) }
 {
     push_tree(run, second)?;

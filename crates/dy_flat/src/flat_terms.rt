@@ -1,3 +1,5 @@
+use crate::contents::Contents;
+use crate::flat_nodes::Node;
 use crate::runs::Run;
 use crate::views::View;
 use dy_term::Memory;
@@ -6,27 +8,30 @@ use std::marker::Model;
 
 /// A term, as the run of its nodes in preorder, with each of its texts and names once. Contracts see the tree.
 ///
-/// A term of n nodes takes 8 n bytes and 33 for each different text and name, beside 72 of its own. `from_tree` may
-/// keep as much again free. A number of nodes before a part, of texts or of names that is 2^32 or more does not fit:
-/// what would make such a term answers `Memory`. Only `from_tree` and `to_tree` are recursive, as deep as the term.
+/// A term of n nodes takes 8 n bytes and 33 for each different text and name, beside 72 of its own. One that was built
+/// may keep as much again free for texts and names, and one of `from_tree` for nodes; one of `copy` keeps nothing free.
+/// A number of nodes before a part, of texts or of names that is 2^32 or more does not fit: what would make such a term
+/// answers `Memory`. Only `from_tree` and `to_tree` are recursive, as deep as the term.
 #[derive(Debug, Drop)]
 pub struct FlatTerm {
-    run: Run,
+    nodes: Vec<Node>,
+    contents: Contents,
 }
 
 impl Model for FlatTerm {
     ghost use Rattle.dy_term.specs.Terms.{Term};
-    ghost use Rattle.dy_flat.specs.Codes.{term_code};
+    ghost use Rattle.dy_flat.specs.MirrorCodes.{term_code};
 
     ghost Value = { Term };
 
     ghost coded = { term_code };
 
-    ghost use Rattle.dy_flat.specs.Runs.{term_of, IsRun};
+    ghost use Rattle.dy_flat.specs.Runs.{term_of};
+    ghost use Rattle.dy_flat.specs.Meaning.{IsWhole, read_all, known};
 
-    ghost view = { λ t. term_of t.run };
+    ghost view = { λ t. term_of (known (read_all t.contents t.nodes.items)) };
 
-    ghost invariant = { λ t. IsRun t.run };
+    ghost invariant = { λ t. IsWhole t.contents t.nodes.items };
 }
 
 impl FlatTerm {
@@ -39,17 +44,20 @@ impl FlatTerm {
         requires { IsRun run }
         ensures { result ≡ term_of run }
     {
-        FlatTerm { run }
+        let Run { nodes, contents } = run;
+        FlatTerm {
+            nodes,
+            contents: contents.finished(),
+        }
     }
 
     /// Lends the whole term.
     pub fn whole(&self) -> View<'_>
         ensures { tree_of result ≡ self.now }
     {
-        let run = &self.run;
         View {
-            nodes: run.nodes.as_slice(),
-            contents: &run.contents,
+            nodes: self.nodes.as_slice(),
+            contents: &self.contents,
         }
     }
 
@@ -58,7 +66,8 @@ impl FlatTerm {
         ensures { IfOk result (λ made. made ≡ self.now) }
     {
         Ok(FlatTerm {
-            run: self.run.copy(alloc)?,
+            nodes: Vec::from_clones(alloc, self.nodes.as_slice())?,
+            contents: self.contents.copy(alloc)?,
         })
     }
 }

@@ -34,14 +34,14 @@ pub fn aead_message<'a>(sealed: View<'a>, key: View) -> Option<View<'a>>
 
 /// Lends the message of authenticated encryption with this associated data. `None` exactly where the term is none,
 /// is not encrypted with this very key, or has other associated data.
-pub fn aead_message_with<'a>(sealed: View<'a>, key: View, data: View) -> Option<View<'a>>
+pub fn aead_message_with<'a>(sealed: View<'a>, key: View, wanted: View) -> Option<View<'a>>
     ensures { part_of result
-        ≡ openings.aead_message_with (tree_of sealed.entry) (tree_of key.entry) (tree_of data.entry) }
+        ≡ openings.aead_message_with (tree_of sealed.entry) (tree_of key.entry) (tree_of wanted.entry) }
 {
     let Parts::Aead(own, message, associated) = take_apart(sealed) else {
         return None;
     };
-    if same(own, key) && same(associated, data) {
+    if same(own, key) && same(associated, wanted) {
         Some(message)
     } else {
         None

@@ -1,6 +1,7 @@
 ghost use Rattle.std.specs.Prelude.{◌≡◌, ◌≤◌, ◌-◌, Some, slice_get, map, take, drop, length};
 ghost use Rattle.dy_term.specs.Terms.{Term};
-ghost use Rattle.dy_flat.specs.Runs.{run_of, span};
+ghost use Rattle.dy_flat.specs.Runs.{run_of};
+ghost use Rattle.dy_flat.specs.MirrorSpans.{span};
 ghost use Rattle.dy_flat.specs.Meaning.{read_all, arity};
 ghost use Rattle.dy_flat.specs.Views.{tree_of};
 ghost use Rattle.dy_flat.specs.Parts as parts;

@@ -1,4 +1,4 @@
-ghost use Rattle.std.specs.Prelude.{◌≡◌, min};
+ghost use Rattle.std.specs.Prelude.{◌≡◌, ◌+◌, min};
 ghost use Rattle.dy_term.specs.Terms as trees;
 ghost use Rattle.dy_flat.specs.Shapes as shapes;
 ghost use Rattle.dy_flat.specs.ShapeMeaning.{shape_of};
@@ -7,6 +7,7 @@ ghost use Rattle.dy_flat.specs.Views.{tree_of};
 use crate::flat_nodes::Node;
 use crate::shapes::Shape;
 use crate::views::View;
+use dy_term::limits::MAX_NODES;
 
 /// The constructor of a term.
 pub fn shape<'a>(view: View<'a>) -> Shape<'a>
@@ -28,9 +29,9 @@ pub fn shape<'a>(view: View<'a>) -> Shape<'a>
     }
 }
 
-/// The number of nodes of a term, or 1,025 where there are more.
+/// The number of nodes of a term, or one more than `MAX_NODES` where there are more.
 pub fn nodes(view: View) -> u32
-    ensures { result ≡ min (trees.size (tree_of view.entry)) 1025 }
+    ensures { result ≡ min (trees.size (tree_of view.entry)) (MAX_NODES + 1) }
 {
-    view.nodes.len().min(1025) as u32
+    view.nodes.len().min(MAX_NODES as usize + 1) as u32
 }

@@ -1,24 +1,25 @@
-ghost use Rattle.std.specs.Prelude.{◌≡◌, ◌∷◌, [], ◌++◌, IfOk, is_ok, true, if◌then◌else◌, length, reverse};
+ghost use Rattle.std.specs.Prelude.{◌≡◌, ◌∷◌, [], ◌++◌, length, reverse};
+ghost use Rattle.std.specs.Prelude.{IfOk, is_ok, true, if◌then◌else◌};
 ghost use Rattle.dy_flat.specs.Runs as runs;
 ghost use Rattle.dy_flat.specs.Meaning.{is_plain, plain};
 
-use crate::contents::Contents;
 use crate::flat_nodes::Node;
+use crate::growing::Growing;
 use dy_term::{Memory, Text, Word};
 use std::alloc::Global;
 use std::marker::Model;
 
-/// Nodes with the texts and names that they have.
+/// Nodes that are built, with the texts and names that they have.
 #[derive(Debug, Drop)]
 pub(crate) struct Run {
     pub(crate) nodes: Vec<Node>,
-    pub(crate) contents: Contents,
+    pub(crate) contents: Growing,
 }
 
 impl Model for Run {
     ghost use Rattle.std.specs.Prelude.{◌≡◌, List, Some, map};
     ghost use Rattle.dy_flat.specs.Runs.{Node};
-    ghost use Rattle.dy_flat.specs.Codes.{run_code};
+    ghost use Rattle.dy_flat.specs.MirrorCodes.{run_code};
 
     ghost Value = { List Node };
 
@@ -26,9 +27,10 @@ impl Model for Run {
 
     ghost use Rattle.dy_flat.specs.Meaning.{read_all, known};
 
-    ghost view = { λ r. known (read_all r.contents r.nodes.items) };
+    ghost view = { λ r. known (read_all r.contents.contents r.nodes.items) };
 
-    ghost invariant = { λ r. read_all r.contents r.nodes.items ≡ map Some (known (read_all r.contents r.nodes.items)) };
+    ghost invariant = { λ r.
+        read_all r.contents.contents r.nodes.items ≡ map Some (known (read_all r.contents.contents r.nodes.items)) };
 }
 
 fn add(nodes: &mut Vec<Node>, node: Node) -> Result<(), Memory>
@@ -46,7 +48,7 @@ impl Run {
     {
         Run {
             nodes: Vec::new(alloc),
-            contents: Contents::new(alloc),
+            contents: Growing::new(alloc),
         }
     }
 
@@ -56,17 +58,7 @@ impl Run {
     {
         Ok(Run {
             nodes: Vec::with_capacity(alloc, nodes)?,
-            contents: Contents::new(alloc),
-        })
-    }
-
-    /// The same run, in memory of its own.
-    pub(crate) fn copy(&self, alloc: Global) -> Result<Run, Memory>
-        ensures { IfOk result (λ made. made ≡ self.now) }
-    {
-        Ok(Run {
-            nodes: Vec::from_clones(alloc, self.nodes.as_slice())?,
-            contents: self.contents.copy(alloc)?,
+            contents: Growing::new(alloc),
         })
     }
 

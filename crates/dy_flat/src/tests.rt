@@ -331,6 +331,34 @@ fn texts_are_kept_once(alloc: Global) -> Result<bool, Memory> {
     )
 }
 
+/// Pairs of 21 different literals.
+fn many_texts(alloc: Global) -> Result<FlatTerm, Memory> {
+    let mut term = literal(alloc, b"")?;
+    for number in 0..20 {
+        let text = format!(in alloc; "m{number}")?;
+        let next = literal(alloc, text.as_bytes())?;
+        term = pair(alloc, next.whole(), term.whole())?;
+    }
+    Ok(term)
+}
+
+/// Whether a term is a pair of another with itself, and has so many texts.
+fn is_twice(both: View, once: View, texts: usize) -> bool {
+    both.contents.texts.len() == texts && is_same(first(both), once) && is_same(second(both), once)
+}
+
+fn many_texts_are_kept_once(alloc: Global) -> Result<bool, Memory> {
+    let once = many_texts(alloc)?;
+    let both = pair(alloc, once.whole(), once.whole())?;
+    let again = of_its_tree(alloc, both.whole())?;
+    Ok(is_twice(both.whole(), once.whole(), 21) && is_twice(again.whole(), once.whole(), 21))
+}
+
+#[test]
+fn many_texts_are_found(rt: HostRuntime) {
+    assert_eq!(rt; many_texts_are_kept_once(rt.alloc()), Ok(true));
+}
+
 #[test]
 fn texts_and_names_are_kept_once(rt: HostRuntime) {
     assert_eq!(rt; texts_are_kept_once(rt.alloc()), Ok(true));
@@ -405,4 +433,89 @@ fn a_node_takes_8_bytes_and_a_text_33(rt: HostRuntime) {
     assert_eq!(rt; size_of::<Text>(), 33);
     assert_eq!(rt; size_of::<Word>(), 33);
     assert_eq!(rt; size_of::<FlatTerm>(), 72);
+}
+
+fn is_this(text: &Text, wanted: &[u8]) -> bool {
+    text.as_bytes() == wanted
+}
+
+fn is_named(name: &Word, wanted: &[u8]) -> bool {
+    name.as_bytes() == wanted
+}
+
+/// Whether a step is a literal or a name of these bytes, or is that nonce.
+fn is_leaf(step: Option<Step>, wanted: &[u8], index: u32) -> bool {
+    match step {
+        Some(Step::Lit(text)) => is_this(text, wanted),
+        Some(Step::Name(name)) => is_named(name, wanted),
+        Some(Step::Nonce(given)) => given == index,
+        _ => false,
+    }
+}
+
+fn is_key_of(step: Option<Step>, key: usize) -> bool {
+    match step {
+        Some(Step::Pk(given)) => given == key,
+        _ => false,
+    }
+}
+
+fn is_of_two(step: Option<Step>, first: usize, second: usize) -> bool {
+    match step {
+        Some(Step::Pair(a, b) | Step::Penc(a, b)) => a == first && b == second,
+        _ => false,
+    }
+}
+
+/// Whether the walk gives the inner pair of the example, which is step 2.
+fn gives_the_inner_pair(walk: &mut Walk) -> bool {
+    is_leaf(walk.next(), b"alice", 0)
+        && is_leaf(walk.next(), b"", 18)
+        && is_of_two(walk.next(), 1, 0)
+}
+
+/// Whether the walk then gives all else, in the order of the numbers.
+fn gives_the_rest(walk: &mut Walk) -> bool {
+    is_leaf(walk.next(), b"m1", 0)
+        && is_of_two(walk.next(), 3, 2)
+        && is_leaf(walk.next(), b"", 12)
+        && is_key_of(walk.next(), 5)
+        && is_of_two(walk.next(), 6, 4)
+        && walk.next().is_none()
+}
+
+fn the_example_is_walked(alloc: Global) -> Result<bool, Memory> {
+    let term = sealed(alloc)?;
+    let mut walk = Walk::over(alloc, term.whole())?;
+    Ok(gives_the_inner_pair(&mut walk) && gives_the_rest(&mut walk))
+}
+
+#[test]
+fn a_walk_gives_parts_first(rt: HostRuntime) {
+    assert_eq!(rt; the_example_is_walked(rt.alloc()), Ok(true));
+}
+
+/// The shapes that the example lacks: `aead(#1, kdf(#2, "c", #3), hash(#4))`.
+fn is_walked_in_threes(alloc: Global) -> Result<bool, Memory> {
+    let one = nonce(alloc, 1)?;
+    let two = nonce(alloc, 2)?;
+    let three = nonce(alloc, 3)?;
+    let four = nonce(alloc, 4)?;
+    let message = derived(alloc, two.whole(), b"c", three.whole())?;
+    let associated = hash(alloc, four.whole())?;
+    let term = aead(alloc, one.whole(), message.whole(), associated.whole())?;
+    let mut last = None;
+    let mut derived_from = None;
+    for step in Walk::over(alloc, term.whole())? {
+        if let Step::Kdf(key, _, input) = step {
+            derived_from = Some((key, input));
+        }
+        last = Some(step);
+    }
+    Ok(derived_from == Some((3, 2)) && matches!(last, Some(Step::Aead(5, 4, 1))))
+}
+
+#[test]
+fn a_walk_over_keys_and_hashes(rt: HostRuntime) {
+    assert_eq!(rt; is_walked_in_threes(rt.alloc()), Ok(true));
 }

@@ -1,4 +1,4 @@
-use Rattle.std.proofs.Common.{◌≡◌, map, drop}
+use Rattle.std.proofs.Common.{map, drop}
 use Rattle.dy_flat.specs.Views.{tree_of}
 use Rattle.dy_flat.proofs.TupleRuns.{Leads}
 use Rattle.dy_flat.proofs.building.tuple.Given as goal

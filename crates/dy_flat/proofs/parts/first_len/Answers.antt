@@ -1,6 +1,6 @@
 use Rattle.std.proofs.Common.{◌≡◌, ◌+◌, ◌-◌, map, drop, arith, sym, ◌∙◌, ap, zero-add, get_or}
 use Rattle.std.proofs.lemmas.List.{drop_all}
-use Rattle.dy_flat.specs.Runs.{span}
+use Rattle.dy_flat.specs.MirrorSpans.{span}
 use Rattle.dy_flat.specs.declared.flat_nodes.Node.TheVariants as code
 use Rattle.dy_flat.specs.Meaning.{arity}
 use Rattle.dy_flat.proofs.Spans.{arity_most, span_none, span_step}

@@ -1,5 +1,5 @@
 use Rattle.std.proofs.Common.{◌≡◌, ◌+◌, ◌*◌, ◌<◌, ◌≤◌, map, drop}
-use Rattle.dy_flat.specs.Runs.{span}
+use Rattle.dy_flat.specs.MirrorSpans.{span}
 use Rattle.dy_flat.specs.Meaning.{arity}
 use Rattle.dy_flat.proofs.parts.first_len.Given as goal
 

@@ -1,6 +1,5 @@
-use Rattle.std.proofs.Common.{◌≡◌, ◌+◌, ◌-◌, suc, true, false, sym, ap, ◌∙◌, arith}
+use Rattle.std.proofs.Common.{sym, ◌∙◌}
 use Rattle.dy_flat.specs.Views.{tree_of}
-use Rattle.dy_flat.specs.MirrorTuples.{has_pairs}
 use Rattle.dy_flat.proofs.TupleFields.{pairs_none, pairs_some, pairs_done}
 use Rattle.dy_flat.proofs.tuples.has_pairs.Goals as goal
 

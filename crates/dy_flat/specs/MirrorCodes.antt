@@ -4,7 +4,8 @@ use Rattle.std.specs.Coded.{Coded, code_by, coded×, coded_ℕ, coded_list}
 use Rattle.std.proofs.Common.{append_assoc, ap, sym, ◌∙◌}
 use Rattle.std.proofs.lemmas.List.{append-nil}
 use Rattle.dy_term.specs.Terms as trees
-use Rattle.dy_flat.specs.Runs.{Node, Lit, Name, Nonce, Pair, Pk, Vk, Penc, Aead, Sign, Mac, Kdf, Hash, run_of, over, terms_of, first_of, term_of}
+use Rattle.dy_flat.specs.Runs.{Node, Lit, Name, Nonce, Pair, Pk, Vk, Penc, Aead, Sign, Mac, Kdf, Hash}
+use Rattle.dy_flat.specs.Runs.{run_of, over, terms_of, first_of, term_of}
 
 abbrev number_of : Node → ℕ × (ℕ × List ℕ)
 number_of (Lit text) = (0, (0, text))
@@ -22,9 +23,10 @@ number_of Hash = (11, (0, []))
 
 abbrev node_of : ℕ × (ℕ × List ℕ) → Node
 node_of p =
-    cond (p.0 == 0) (Lit p.1.1) (cond (p.0 == 1) (Name p.1.1) (cond (p.0 == 2) (Nonce p.1.0) (cond (p.0 == 3) (Pair p.1.0)
-    (cond (p.0 == 4) Pk (cond (p.0 == 5) Vk (cond (p.0 == 6) (Penc p.1.0) (cond (p.0 == 7) (Aead p.1.0)
-    (cond (p.0 == 8) (Sign p.1.0) (cond (p.0 == 9) (Mac p.1.0) (cond (p.0 == 10) (Kdf p.1.1) Hash))))))))))
+    cond (p.0 == 0) (Lit p.1.1) (cond (p.0 == 1) (Name p.1.1) (cond (p.0 == 2) (Nonce p.1.0)
+    (cond (p.0 == 3) (Pair p.1.0) (cond (p.0 == 4) Pk (cond (p.0 == 5) Vk (cond (p.0 == 6) (Penc p.1.0)
+    (cond (p.0 == 7) (Aead p.1.0) (cond (p.0 == 8) (Sign p.1.0) (cond (p.0 == 9) (Mac p.1.0)
+    (cond (p.0 == 10) (Kdf p.1.1) Hash))))))))))
 
 pub node_of-number_of : (node : Node) → node_of (number_of node) ≡ node
 node_of-number_of (Lit text) = refl
@@ -41,14 +43,19 @@ node_of-number_of (Kdf context) = refl
 node_of-number_of Hash = refl
 
 abbrev pub node_code : Coded Node
-node_code = code_by (ℕ × (ℕ × List ℕ)) (coded× coded_ℕ (coded× coded_ℕ (coded_list coded_ℕ))) number_of node_of node_of-number_of
+node_code =
+    code_by (ℕ × (ℕ × List ℕ)) (coded× coded_ℕ (coded× coded_ℕ (coded_list coded_ℕ)))
+    number_of node_of node_of-number_of
 
 abbrev pub run_code : Coded (List Node)
 run_code = coded_list node_code
 
-two_runs : (A B rest : List Node) (a b : trees.Term) → terms_of (A ++ (B ++ rest)) ≡ a ∷ terms_of (B ++ rest)
-    → terms_of (B ++ rest) ≡ b ∷ terms_of rest → terms_of ((A ++ B) ++ rest) ≡ a ∷ b ∷ terms_of rest
-two_runs A B rest a b front back = ap terms_of (append_assoc A B rest) ∙ front ∙ ap (λ terms. a ∷ terms) back
+two_terms : (a b : trees.Term) (rest : List Node)
+    → terms_of (run_of a ++ (run_of b ++ rest)) ≡ a ∷ terms_of (run_of b ++ rest)
+    → terms_of (run_of b ++ rest) ≡ b ∷ terms_of rest
+    → terms_of ((run_of a ++ run_of b) ++ rest) ≡ a ∷ b ∷ terms_of rest
+two_terms a b rest of_a of_b =
+    ap terms_of (append_assoc (run_of a) (run_of b) rest) ∙ of_a ∙ ap (λ terms. a ∷ terms) of_b
 
 -- The nodes of a run, and then others, make the term and then what the others make.
 pub terms_of-run_of : (t : trees.Term) (rest : List Node) → terms_of (run_of t ++ rest) ≡ t ∷ terms_of rest
@@ -56,22 +63,29 @@ terms_of-run_of (trees.Lit text) rest = refl
 terms_of-run_of (trees.Name principal) rest = refl
 terms_of-run_of (trees.Nonce index) rest = refl
 terms_of-run_of (trees.Pair first second) rest =
-    ap (over (Pair 0)) (two_runs (run_of first) (run_of second) rest first second (terms_of-run_of first (run_of second ++ rest)) (terms_of-run_of second rest))
+    ap (over (Pair 0))
+    (two_terms first second rest (terms_of-run_of first (run_of second ++ rest)) (terms_of-run_of second rest))
 terms_of-run_of (trees.Pk key) rest = ap (over Pk) (terms_of-run_of key rest)
 terms_of-run_of (trees.Vk key) rest = ap (over Vk) (terms_of-run_of key rest)
 terms_of-run_of (trees.Penc to message) rest =
-    ap (over (Penc 0)) (two_runs (run_of to) (run_of message) rest to message (terms_of-run_of to (run_of message ++ rest)) (terms_of-run_of message rest))
+    ap (over (Penc 0))
+    (two_terms to message rest (terms_of-run_of to (run_of message ++ rest)) (terms_of-run_of message rest))
 terms_of-run_of (trees.Aead key message associated) rest =
-    let back = run_of associated ++ rest in
-    let parts = two_runs (run_of message) (run_of associated) rest message associated (terms_of-run_of message back) (terms_of-run_of associated rest) in
-    let front = terms_of-run_of key ((run_of message ++ run_of associated) ++ rest) in
-    ap (over (Aead 0)) (ap terms_of (append_assoc (run_of key) (run_of message ++ run_of associated) rest) ∙ front ∙ ap (λ terms. key ∷ terms) parts)
+    let later = run_of message ++ run_of associated in
+    let of_message = terms_of-run_of message (run_of associated ++ rest) in
+    let of_two = two_terms message associated rest of_message (terms_of-run_of associated rest) in
+    let of_key = terms_of-run_of key (later ++ rest) in
+    ap (over (Aead 0))
+    (ap terms_of (append_assoc (run_of key) later rest) ∙ of_key ∙ ap (λ terms. key ∷ terms) of_two)
 terms_of-run_of (trees.Sign key message) rest =
-    ap (over (Sign 0)) (two_runs (run_of key) (run_of message) rest key message (terms_of-run_of key (run_of message ++ rest)) (terms_of-run_of message rest))
+    ap (over (Sign 0))
+    (two_terms key message rest (terms_of-run_of key (run_of message ++ rest)) (terms_of-run_of message rest))
 terms_of-run_of (trees.Mac key message) rest =
-    ap (over (Mac 0)) (two_runs (run_of key) (run_of message) rest key message (terms_of-run_of key (run_of message ++ rest)) (terms_of-run_of message rest))
+    ap (over (Mac 0))
+    (two_terms key message rest (terms_of-run_of key (run_of message ++ rest)) (terms_of-run_of message rest))
 terms_of-run_of (trees.Kdf key context input) rest =
-    ap (over (Kdf context)) (two_runs (run_of key) (run_of input) rest key input (terms_of-run_of key (run_of input ++ rest)) (terms_of-run_of input rest))
+    ap (over (Kdf context))
+    (two_terms key input rest (terms_of-run_of key (run_of input ++ rest)) (terms_of-run_of input rest))
 terms_of-run_of (trees.Hash message) rest = ap (over Hash) (terms_of-run_of message rest)
 
 pub term_of-run_of : (t : trees.Term) → term_of (run_of t) ≡ t
