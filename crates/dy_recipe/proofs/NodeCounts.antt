@@ -1,5 +1,5 @@
 -- Numbers of nodes that end at 1,025.
-use Rattle.std.proofs.Common.{◌≡◌, ℕ, ◌+◌, ◌<◌, ◌≤◌, true, false, nat_le, min, refl, inl, inr, arith}
+use Rattle.std.proofs.Common.{◌≡◌, ℕ, ◌+◌, ◌<◌, ◌≤◌, nat_le, min, refl, inl, inr, arith}
 use Rattle.std.proofs.lemmas.Bool.{cases_Bool, leb-true, leb-false, le-leb}
 
 same_side : (a b : ℕ) → (b ≤ 1024 → a ≤ 1024) → (1024 < b → 1024 < a) → nat_le a 1024 ≡ nat_le b 1024

@@ -8,5 +8,6 @@ use Rattle.dy_recipe.specs.Values.{move_value, last_of}
 pub record HasValue (leaves : Leaves) (moves : List Move) (value : Term) : Type 0 where
   pub values : List Term
   pub each : length values ≡ length moves
-  pub over : (i : ℕ) (move : Move) → slice_get moves i ≡ Some move → slice_get values i ≡ move_value leaves (take i values) move
+  pub over : (i : ℕ) (move : Move) → slice_get moves i ≡ Some move
+      → slice_get values i ≡ move_value leaves (take i values) move
   pub last : last_of values ≡ Some value

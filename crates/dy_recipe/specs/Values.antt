@@ -4,7 +4,8 @@ use Rattle.std.specs.Option.{option_map, option_and_then}
 use Rattle.dy_term.specs.Terms as trees
 use Rattle.dy_term.specs.Terms.{Term, size}
 use Rattle.dy_flat.specs.Parts as parts
-use Rattle.dy_recipe.specs.Moves.{Move, Message, Cert, Forge, State, Lit, Name, Pair, Pk, Vk, Penc, Aead, Sign, Mac, Kdf, Hash, Fst, Snd, Pdec, Adec, Ad, Body, Leaves, MessageAt, CertAt, FieldAt}
+use Rattle.dy_recipe.specs.Moves.{Move, Message, Cert, Forge, State, Lit, Name, Leaves, MessageAt, CertAt, FieldAt}
+use Rattle.dy_recipe.specs.Moves.{Pair, Pk, Vk, Penc, Aead, Sign, Mac, Kdf, Hash, Fst, Snd, Pdec, Adec, Ad, Body}
 use Rattle.dy_term.specs.declared.limits.TheConstants.{MAX_NODES}
 use Rattle.dy_flat.specs.Openings.{penc_message, aead_message, signed_message}
 
@@ -17,7 +18,8 @@ abbrev pub of_two : (Term → Term → Option Term) → Option Term → Option T
 of_two operation (Some a) (Some b) = operation a b
 of_two operation _ _ = None
 
-abbrev pub of_three : (Term → Term → Term → Option Term) → Option Term → Option Term → Option Term → Option Term
+abbrev pub of_three : (Term → Term → Term → Option Term)
+    → Option Term → Option Term → Option Term → Option Term
 of_three operation (Some a) (Some b) (Some c) = operation a b c
 of_three operation _ _ _ = None
 
@@ -33,10 +35,12 @@ made_by leaves values (Pair a b) = of_two (λ x y. Some (trees.Pair x y)) (numbe
 made_by leaves values (Pk a) = option_map trees.Pk (numbered values a)
 made_by leaves values (Vk a) = option_map trees.Vk (numbered values a)
 made_by leaves values (Penc a b) = of_two (λ x y. Some (trees.Penc x y)) (numbered values a) (numbered values b)
-made_by leaves values (Aead a b c) = of_three (λ x y z. Some (trees.Aead x y z)) (numbered values a) (numbered values b) (numbered values c)
+made_by leaves values (Aead a b c) =
+    of_three (λ x y z. Some (trees.Aead x y z)) (numbered values a) (numbered values b) (numbered values c)
 made_by leaves values (Sign a b) = of_two (λ x y. Some (trees.Sign x y)) (numbered values a) (numbered values b)
 made_by leaves values (Mac a b) = of_two (λ x y. Some (trees.Mac x y)) (numbered values a) (numbered values b)
-made_by leaves values (Kdf a context b) = of_two (λ x y. Some (trees.Kdf x context y)) (numbered values a) (numbered values b)
+made_by leaves values (Kdf a context b) =
+    of_two (λ x y. Some (trees.Kdf x context y)) (numbered values a) (numbered values b)
 made_by leaves values (Hash a) = option_map trees.Hash (numbered values a)
 made_by leaves values (Fst a) = option_and_then parts.first (numbered values a)
 made_by leaves values (Snd a) = option_and_then parts.second (numbered values a)
@@ -56,7 +60,8 @@ move_value leaves values move = option_and_then if_small (made_by leaves values 
 -- The values of moves after earlier ones, each over the values of all before it. There are none where a move has none.
 abbrev pub move_values : Leaves → List Term → List Move → Option (List Term)
 move_values leaves earlier [] = Some earlier
-move_values leaves earlier (move ∷ more) = option_and_then (λ value. move_values leaves (earlier ++ value ∷ []) more) (move_value leaves earlier move)
+move_values leaves earlier (move ∷ more) =
+    option_and_then (λ value. move_values leaves (earlier ++ value ∷ []) more) (move_value leaves earlier move)
 
 -- the last of some values
 abbrev pub last_of : List Term → Option Term

@@ -17,7 +17,8 @@ fn move_value<G: Given>(
     earlier: &[FlatTerm],
     given: &G,
 ) -> Result<Option<FlatTerm>, Memory>
-    ensures value { IfOk result (λ value. value ≡ values.move_value (G.leaves given.now) earlier.now (move_of step.now)) }
+    ensures value { IfOk result (λ value.
+        value ≡ values.move_value (G.leaves given.now) earlier.now (move_of step.now)) }
     ensures memory { IsErr result → IsSome (values.move_value (G.leaves given.now) earlier.now (move_of step.now)) }
 {
     match lent_by(step, earlier, given) {
@@ -32,7 +33,8 @@ fn move_values<G: Given>(
     moves: &[Move],
     given: &G,
 ) -> Result<Option<Vec<FlatTerm>>, Memory>
-    ensures { IfOk result (λ made. option_map (λ v. v.items) made ≡ values.move_values (G.leaves given.now) [] (map move_of moves.now)) }
+    ensures { IfOk result (λ made.
+        option_map (λ v. v.items) made ≡ values.move_values (G.leaves given.now) [] (map move_of moves.now)) }
 {
     let mut made = Vec::new(alloc);
     for step in moves {

@@ -6,11 +6,13 @@ mod given;
 mod laws;
 mod lent;
 mod moves;
+mod trimming;
 
 pub use applying::apply;
 pub use given::Given;
 pub use laws::value_by_places;
 pub use moves::{Move, Recipe};
+pub use trimming::trimmed;
 
 #[cfg(test)]
 mod tests;

@@ -390,3 +390,85 @@ fn values_at_the_limit(rt: HostRuntime) {
     assert_eq!(rt; nodes_past_the_limit(rt.alloc()), Ok(None));
     assert_eq!(rt; nodes_after_the_limit(rt.alloc()), Ok(None));
 }
+
+/// The moves of `to_the_nonce`, and others that it does not need among them.
+fn to_the_nonce_and_more(alloc: Global) -> Result<Recipe, Memory> {
+    let begun = three(alloc, Move::Message(0), Move::Forge(5), Move::State(1, 1))?;
+    let opened = and(and(begun, Move::Hash(2))?, Move::Pdec(1, 3))?;
+    and(and(and(opened, text(b"x"))?, Move::Snd(5))?, Move::Fst(7))
+}
+
+fn is_said(alloc: Global, step: &Move, wanted: &str) -> bool {
+    match format!(in alloc; "{step:?}") {
+        Ok(text) => text.as_str() == wanted,
+        Err(_) => false,
+    }
+}
+
+fn are_said(alloc: Global, moves: &[Move], wanted: &[&str]) -> bool {
+    if moves.len() != wanted.len() {
+        return false;
+    }
+    for (place, step) in moves.iter().enumerate() {
+        if !is_said(alloc, step, wanted[place]) {
+            return false;
+        }
+    }
+    true
+}
+
+/// Whether these moves are left of a recipe.
+fn leaves(alloc: Global, recipe: Result<Recipe, Memory>, wanted: &[&str]) -> bool {
+    let Ok(recipe) = recipe else {
+        return false;
+    };
+    match trimmed(alloc, &recipe) {
+        Ok(made) => are_said(alloc, made.moves.as_slice(), wanted),
+        Err(_) => false,
+    }
+}
+
+fn less(alloc: Global, recipe: Result<Recipe, Memory>) -> Result<Recipe, Memory> {
+    trimmed(alloc, &recipe?)
+}
+
+fn gives_the_nonce(alloc: Global) -> Result<bool, Memory> {
+    let given = encrypted(alloc)?;
+    Ok(gives(
+        alloc,
+        less(alloc, to_the_nonce_and_more(alloc)),
+        &given,
+        b"#18",
+    ))
+}
+
+#[test]
+fn moves_that_are_not_needed(rt: HostRuntime) {
+    let alloc = rt.alloc();
+    let wanted = [
+        "Message(0)",
+        "State(1, 1)",
+        "Pdec(1, 2)",
+        "Snd(3)",
+        "Fst(4)",
+    ];
+    assert!(rt; leaves(alloc, to_the_nonce_and_more(alloc), &wanted));
+    assert!(rt; leaves(alloc, to_the_nonce(alloc), &wanted));
+    assert_eq!(rt; gives_the_nonce(alloc), Ok(true));
+}
+
+#[test]
+fn few_moves_are_trimmed(rt: HostRuntime) {
+    let alloc = rt.alloc();
+    assert!(rt; leaves(alloc, Ok(empty(alloc)), &[]));
+    assert!(rt; leaves(alloc, one(alloc, Move::Cert(4)), &["Cert(4)"]));
+    assert!(rt;
+        leaves(
+            alloc,
+            two(alloc, Move::Cert(4), Move::Forge(5)),
+            &["Forge(5)"]
+        )
+    );
+    let last = three(alloc, Move::Cert(4), Move::Forge(5), Move::Aead(2, 2, 4));
+    assert!(rt; leaves(alloc, last, &["Forge(5)", "Aead(1, 1, 0)"]));
+}
