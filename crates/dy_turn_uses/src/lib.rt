@@ -1,9 +1,9 @@
-//! Notes that threads write by turns: a history whose items hold terms and labels.
+//! A trace that threads write by turns: a history whose items hold terms, labels and words.
 #![tactic(auto)]
 
-mod notes;
+mod traces;
 
-pub use notes::{Note, Notes, append};
+pub use traces::{Trace, append};
 
 #[cfg(test)]
 mod tests;
