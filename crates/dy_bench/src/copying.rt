@@ -1,5 +1,5 @@
-use crate::flat::built;
-use crate::{Leaves, ROUNDS, wanting};
+use crate::flat::build;
+use crate::{Leaves, ROUNDS, out_of_memory};
 use std::io;
 use std::time::{Duration, Instant};
 
@@ -13,11 +13,11 @@ pub(crate) struct Times {
 /// Nodes of 8 bytes, of which there are 1,023, and 512 texts of 33.
 const BYTES: usize = 8 * 1023 + 33 * 512;
 
-pub(crate) fn measured(rt: &HostRuntime) -> io::Result<Times> {
-    let mut term = built(rt.alloc(), Leaves::Literals).map_err(wanting)?;
+pub(crate) fn measure(rt: &HostRuntime) -> io::Result<Times> {
+    let mut term = build(rt.alloc(), Leaves::Literals).map_err(out_of_memory)?;
     let start = Instant::now(rt)?;
     for _ in 0..ROUNDS {
-        term = term.copy(rt.alloc()).map_err(wanting)?;
+        term = term.copy(rt.alloc()).map_err(out_of_memory)?;
     }
     let terms = start.elapsed(rt)?;
     let mut bytes = vec![in rt.alloc(); 1u8; BYTES]?;

@@ -1,5 +1,5 @@
-use crate::{Leaves, ROUNDS, Times, text, wanting};
-use dy_flat::{FlatTerm, View, first, lit, nonce, pair, pk, second};
+use crate::{Leaves, ROUNDS, Times, out_of_memory, text};
+use dy_flat::{FlatTerm, Parts, View, lit, nonce, pair, pk, take_apart};
 use dy_term::Memory;
 use std::alloc::Global;
 use std::io;
@@ -16,20 +16,20 @@ fn leaf(alloc: Global, leaves: Leaves, number: u32) -> Result<FlatTerm, Memory> 
 
 /// The pairs of neighbours. Of an odd number the last is left out.
 fn pairs(alloc: Global, level: &[FlatTerm]) -> Result<Vec<FlatTerm>, Memory> {
-    let mut made = Vec::new(alloc);
+    let mut level_above = Vec::new(alloc);
     for two in level.chunks_exact(2) {
         if let [a, b] = two {
             let both = pair(alloc, a.whole(), b.whole())?;
-            if made.push(both).is_err() {
+            if level_above.push(both).is_err() {
                 return Err(Memory);
             }
         }
     }
-    Ok(made)
+    Ok(level_above)
 }
 
 /// 512 leaves in pairs of pairs.
-pub(crate) fn built(alloc: Global, leaves: Leaves) -> Result<FlatTerm, Memory> {
+pub(crate) fn build(alloc: Global, leaves: Leaves) -> Result<FlatTerm, Memory> {
     let mut level = Vec::new(alloc);
     for number in 0..512 {
         if level.push(leaf(alloc, leaves, number)?).is_err() {
@@ -54,12 +54,12 @@ fn leaves(alloc: Global, term: View) -> Result<u32, Memory> {
         let Some(term) = next else {
             break;
         };
-        match (first(term), second(term)) {
-            (Some(front), Some(back)) => {
-                if rest.push(back).is_err() {
+        match take_apart(term) {
+            Parts::Pair(first, second) => {
+                if rest.push(second).is_err() {
                     return Err(Memory);
                 }
-                next = Some(front);
+                next = Some(first);
             }
             _ => {
                 found = found.saturating_add(1);
@@ -70,18 +70,18 @@ fn leaves(alloc: Global, term: View) -> Result<u32, Memory> {
     Ok(found)
 }
 
-pub(crate) fn measured(rt: &HostRuntime, kind: Leaves) -> io::Result<Times> {
+pub(crate) fn measure(rt: &HostRuntime, kind: Leaves) -> io::Result<Times> {
     let start = Instant::now(rt)?;
-    let mut term = built(rt.alloc(), kind).map_err(wanting)?;
+    let mut term = build(rt.alloc(), kind).map_err(out_of_memory)?;
     for _ in 1..ROUNDS {
-        term = built(rt.alloc(), kind).map_err(wanting)?;
+        term = build(rt.alloc(), kind).map_err(out_of_memory)?;
     }
     let building = start.elapsed(rt)?;
     let start = Instant::now(rt)?;
     let mut found = 0u64;
     let whole = term.whole();
     for _ in 0..ROUNDS {
-        let once = leaves(rt.alloc(), whole).map_err(wanting)?;
+        let once = leaves(rt.alloc(), whole).map_err(out_of_memory)?;
         found = found.saturating_add(u64::from(once));
     }
     let parting = start.elapsed(rt)?;

@@ -23,7 +23,7 @@ fn unread(error: ReadError) -> io::Error {
     }
 }
 
-fn uncut(error: LexError) -> io::Error {
+fn as_io_error(error: LexError) -> io::Error {
     match error {
         LexError::Bad { .. } => io::Error::from(io::ErrorKind::InvalidData),
         LexError::Memory => io::Error::from(io::ErrorKind::OutOfMemory),
@@ -31,11 +31,11 @@ fn uncut(error: LexError) -> io::Error {
 }
 
 /// The tokens of standard input, and its newlines.
-pub(crate) fn measured(rt: &HostRuntime) -> io::Result<Times> {
+pub(crate) fn measure(rt: &HostRuntime) -> io::Result<Times> {
     let mut source = StdinSource::new(rt.stdin());
     let bytes = read_all(rt.alloc(), &mut source, LIMIT).map_err(unread)?;
     let start = Instant::now(rt)?;
-    let tokens = lex(rt.alloc(), &bytes).map_err(uncut)?;
+    let tokens = lex(rt.alloc(), &bytes).map_err(as_io_error)?;
     let lexing = start.elapsed(rt)?;
     let start = Instant::now(rt)?;
     let lines = bytes.iter().filter(|byte| **byte == b'\n').count();

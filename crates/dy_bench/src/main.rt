@@ -44,7 +44,7 @@ pub(crate) struct Times {
     pub(crate) found: u64,
 }
 
-pub(crate) fn wanting(_: Memory) -> io::Error {
+pub(crate) fn out_of_memory(_: Memory) -> io::Error {
     io::Error::from(io::ErrorKind::OutOfMemory)
 }
 
@@ -78,12 +78,12 @@ fn main(rt: HostRuntime) -> io::Result<()> {
         None => String::new(rt.alloc()),
     };
     match word.as_str() {
-        "copy" => print_copying(&rt, copying::measured(&rt)?),
-        "flat" => print(&rt, "flat", flat::measured(&rt, Leaves::Mixed)?),
-        "flat-literals" => print(&rt, "flat", flat::measured(&rt, Leaves::Literals)?),
-        "lex" => print_lexing(&rt, lexing::measured(&rt)?),
-        "tree" => print(&rt, "tree", tree::measured(&rt, Leaves::Mixed)?),
-        "tree-literals" => print(&rt, "tree", tree::measured(&rt, Leaves::Literals)?),
+        "copy" => print_copying(&rt, copying::measure(&rt)?),
+        "flat" => print(&rt, "flat", flat::measure(&rt, Leaves::Mixed)?),
+        "flat-literals" => print(&rt, "flat", flat::measure(&rt, Leaves::Literals)?),
+        "lex" => print_lexing(&rt, lexing::measure(&rt)?),
+        "tree" => print(&rt, "tree", tree::measure(&rt, Leaves::Mixed)?),
+        "tree-literals" => print(&rt, "tree", tree::measure(&rt, Leaves::Literals)?),
         _ => println!(rt; "usage: dy_bench copy|flat|flat-literals|lex|tree|tree-literals"),
     }
 }

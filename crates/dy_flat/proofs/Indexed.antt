@@ -8,6 +8,7 @@ use Rattle.std.proofs.lemmas.List.{length-append, get_or-set_other, get_or-set_s
 use Rattle.std.proofs.lemmas.Slice.Eq.{bytes_eq-Decides}
 use Rattle.std.proofs.Math.ListN.{set, get_or-append}
 use Rattle.std.proofs.Math.Seq.{get_or-append_seam}
+use Rattle.dy_flat.specs.declared.indexing.TheConstants.{CLASSES}
 use Rattle.dy_flat.specs.Extending.{Extends}
 use Rattle.dy_flat.specs.MirrorIndexes.{class_of, Skips, Covers}
 
@@ -92,10 +93,10 @@ covers_none bytes kept lasts links zeros none =
       link = λ place one less. absurd (omega (arith, less, len));
     }
 
-in_front : {A : Type 0} (xs ys : List A) (place : ℕ) → place < length xs → slice_get (xs ++ ys) place ≡ slice_get xs place
-in_front [] ys place less = absurd (omega (arith, less))
-in_front (x ∷ xs) ys zero less = refl
-in_front (x ∷ xs) ys (suc place) less = in_front xs ys place (omega (arith, less))
+in_prefix : {A : Type 0} (xs ys : List A) (place : ℕ) → place < length xs → slice_get (xs ++ ys) place ≡ slice_get xs place
+in_prefix [] ys place less = absurd (omega (arith, less))
+in_prefix (x ∷ xs) ys zero less = refl
+in_prefix (x ∷ xs) ys (suc place) less = in_prefix xs ys place (omega (arith, less))
 
 skips_more : {A : Type 0} (bytes : A → List ℕ) (kept more : List A) (class from to : ℕ) → ((place : ℕ) → place < to → slice_get more place ≡ slice_get kept place)
     → Skips bytes kept class from to → Skips bytes more class from to
@@ -109,7 +110,7 @@ skips_more bytes kept more class from to same skips = record {
 pub covers_more : {A : Type 0} (bytes : A → List ℕ) (kept more : List A) (lasts links : List ℕ) → Extends kept more → Covers bytes kept lasts links → Covers bytes more lasts links
 covers_more bytes kept more lasts links grown covers =
     let same = λ (place : ℕ) (less : place < length links).
-    let is : slice_get more place ≡ slice_get kept place = ap (λ xs. slice_get xs place) grown.is ∙ in_front kept grown.more place (omega (arith, less, covers.within)) in is in
+    let is : slice_get more place ≡ slice_get kept place = ap (λ xs. slice_get xs place) grown.is ∙ in_prefix kept grown.more place (omega (arith, less, covers.within)) in is in
     record {
       within = omega (arith, covers.within, ap length grown.is, length-append kept grown.more);
       last = λ class less. skips_more bytes kept more class (get_or lasts class 0) (length links) same (covers.last class less);
@@ -119,7 +120,7 @@ covers_more bytes kept more lasts links grown covers =
 
 -- the next one is taken in
 pub covers_next : {A : Type 0} (bytes : A → List ℕ) (kept : List A) (x : A) (lasts links : List ℕ) (class : ℕ) → slice_get kept (length links) ≡ Some x → length links < length kept
-    → length lasts ≡ 128 → class < 128 → class ≡ class_of (bytes x) → Covers bytes kept lasts links → Covers bytes kept (set lasts class (length links + 1)) (links ++ get_or lasts class 0 ∷ [])
+    → length lasts ≡ CLASSES → class < CLASSES → class ≡ class_of (bytes x) → Covers bytes kept lasts links → Covers bytes kept (set lasts class (length links + 1)) (links ++ get_or lasts class 0 ∷ [])
 covers_next {A = A} bytes kept x lasts links class here more classes few class_is covers =
     let n = length links in
     let last = get_or lasts class 0 in
@@ -198,7 +199,7 @@ passed_link bytes kept wanted x lasts links at next covers some passed here othe
 
 -- the next one is taken in, as the code does it
 pub covers_pushed : {A : Type 0} (bytes : A → List ℕ) (kept : List A) (x : A) (lasts links now : List ℕ) (class place value : ℕ) → place ≡ length links → slice_get kept place ≡ Some x
-    → length links < length kept → length lasts ≡ 128 → class < 128 → class ≡ class_of (bytes x) → value ≡ get_or lasts class value → now ≡ links ++ value ∷ []
+    → length links < length kept → length lasts ≡ CLASSES → class < CLASSES → class ≡ class_of (bytes x) → value ≡ get_or lasts class value → now ≡ links ++ value ∷ []
     → Covers bytes kept lasts links → Covers bytes kept (set lasts class (place + 1)) now
 covers_pushed bytes kept x lasts links now class place value at here more classes few class_is is pushed covers =
     let value_is : get_or lasts class 0 ≡ value = other_default lasts class 0 value (omega (arith, few, classes)) ∙ sym is in
@@ -206,10 +207,10 @@ covers_pushed bytes kept x lasts links now class place value at here more classe
     rw (pushed, at, ← value_is) (covers_next bytes kept x lasts links class here_at more classes few class_is covers)
 
 pub any_split : {A : Type 0} (p : A → Bool) (n : ℕ) (xs : List A) → list_any p (take n xs) ≡ false → list_any p (drop n xs) ≡ false → list_any p xs ≡ false
-any_split p zero xs front back = back
-any_split p (suc n) [] front back = refl
-any_split p (suc n) (x ∷ xs) front back =
-    let parts = or_parts (p x) (list_any p (take n xs)) front in
+any_split p zero xs prefix back = back
+any_split p (suc n) [] prefix back = refl
+any_split p (suc n) (x ∷ xs) prefix back =
+    let parts = or_parts (p x) (list_any p (take n xs)) prefix in
     rw (parts.0, any_split p n xs parts.1 back) refl
 
 pub none_by : {A P Q : Type 0} (found : Option A) → IfNone found P → (P → Q) → IfNone found Q

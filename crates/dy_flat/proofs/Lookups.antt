@@ -8,7 +8,7 @@ use Rattle.dy_flat.specs.declared.flat_nodes.Node.{Node}
 use Rattle.dy_flat.specs.declared.flat_nodes.Node.TheVariants as code
 use Rattle.dy_flat.specs.declared.contents.Contents.{Contents}
 use Rattle.dy_flat.specs.Runs as runs
-use Rattle.dy_flat.specs.Meaning.{read, read_all, known, is_plain, plain}
+use Rattle.dy_flat.specs.Meaning.{read, read_all, known}
 use Rattle.dy_flat.specs.Extending.{Extends}
 use Rattle.dy_flat.specs.Growth.{Grows}
 
@@ -32,8 +32,8 @@ map-Some-same m n e = sym (known-map m) ∙ ap known e ∙ known-map n
 pub extends_same : {A : Type 0} (old new : List A) → new ≡ old → Extends old new
 extends_same old new is = record { more = []; is = is ∙ sym (append-nil old) }
 
-pub same_grows : (old new : Contents) → new.texts.items ≡ old.texts.items → new.names.items ≡ old.names.items → Grows old new
-same_grows old new texts names = record { texts = extends_same _ _ texts; names = extends_same _ _ names }
+pub grows_by_none : (contents : Contents) → Grows contents contents
+grows_by_none contents = record { texts = extends_same _ _ refl; names = extends_same _ _ refl }
 
 pub slice_get-last : {A : Type 0} (xs : List A) (x : A) (k : ℕ) → k ≡ length xs → slice_get (xs ++ x ∷ []) k ≡ Some x
 slice_get-last [] x k is = rw is refl
@@ -86,20 +86,6 @@ read_all-added old new grows nodes more m node n false is all one = rw is (read_
 pub added_known : {E : Type 0} (r : Result (Unit {0}) E) (old new : Contents) → Grows old new → (nodes more : List Node) (m : List runs.Node) (node : Node) (n : runs.Node) → more ≡ (if is_ok r then nodes ++ node ∷ [] else nodes) → read_all old nodes ≡ map Some m → read new node ≡ Some n → IfOk r (λ _. known (read_all new more) ≡ m ++ n ∷ [])
 added_known (Ok done) old new grows nodes more m node n is all one = known_is _ _ (read_all-added old new grows nodes more m node n true is all one)
 added_known (Err error) old new grows nodes more m node n is all one = tt
-
-pub read-plain : (contents : Contents) (node : Node) → is_plain node ≡ true → read contents node ≡ Some (plain node)
-read-plain contents (code.Lit place) is = cc
-read-plain contents (code.Name place) is = cc
-read-plain contents (code.Nonce index) is = refl
-read-plain contents (code.Pair before) is = refl
-read-plain contents code.Pk is = refl
-read-plain contents code.Vk is = refl
-read-plain contents (code.Penc before) is = refl
-read-plain contents (code.Aead before) is = refl
-read-plain contents (code.Sign before) is = refl
-read-plain contents (code.Mac before) is = refl
-read-plain contents (code.Kdf place) is = cc
-read-plain contents code.Hash is = refl
 
 -- ---- the other way round
 

@@ -86,9 +86,9 @@ read_all_parts contents (node ∷ nodes) (n ∷ m) e =
 
 -- Two runs, one after the other, whatever is due before, between and after them.
 joined : (k l m : ℕ) (A B rest : List runs.Node) → span k (map parts_of (A ++ (B ++ rest))) ≡ length A + span l (map parts_of (B ++ rest)) → span l (map parts_of (B ++ rest)) ≡ length B + span m (map parts_of rest) → span k (map parts_of ((A ++ B) ++ rest)) ≡ length (A ++ B) + span m (map parts_of rest)
-joined k l m A B rest front back =
+joined k l m A B rest prefix back =
     let one = ap (λ nodes. span k (map parts_of nodes)) (append_assoc A B rest) in
-    omega (arith, one, front, back, length-append A B)
+    omega (arith, one, prefix, back, length-append A B)
 
 plus_two : (n : ℕ) → n + 2 ≡ suc (suc n)
 plus_two n = omega arith
@@ -102,31 +102,31 @@ span_run (trees.Lit text) due rest = ap (λ n. 1 + span n (map parts_of rest)) (
 span_run (trees.Name principal) due rest = ap (λ n. 1 + span n (map parts_of rest)) (add-zero due)
 span_run (trees.Nonce index) due rest = ap (λ n. 1 + span n (map parts_of rest)) (add-zero due)
 span_run (trees.Pair first second) due rest =
-    let front = span_run first (suc due) (run_of second ++ rest) in
-    let both = joined (suc (suc due)) (suc due) due (run_of first) (run_of second) rest front (span_run second due rest) in
+    let prefix = span_run first (suc due) (run_of second ++ rest) in
+    let both = joined (suc (suc due)) (suc due) due (run_of first) (run_of second) rest prefix (span_run second due rest) in
     omega (arith, ap (λ n. span n (map parts_of ((run_of first ++ run_of second) ++ rest))) (plus_two due), both)
 span_run (trees.Pk key) due rest = omega (arith, ap (λ n. span n (map parts_of (run_of key ++ rest))) (add-one due), span_run key due rest)
 span_run (trees.Vk key) due rest = omega (arith, ap (λ n. span n (map parts_of (run_of key ++ rest))) (add-one due), span_run key due rest)
 span_run (trees.Penc to message) due rest =
-    let front = span_run to (suc due) (run_of message ++ rest) in
-    let both = joined (suc (suc due)) (suc due) due (run_of to) (run_of message) rest front (span_run message due rest) in
+    let prefix = span_run to (suc due) (run_of message ++ rest) in
+    let both = joined (suc (suc due)) (suc due) due (run_of to) (run_of message) rest prefix (span_run message due rest) in
     omega (arith, ap (λ n. span n (map parts_of ((run_of to ++ run_of message) ++ rest))) (plus_two due), both)
 span_run (trees.Aead key message associated) due rest =
-    let front = span_run key (suc (suc due)) ((run_of message ++ run_of associated) ++ rest) in
+    let prefix = span_run key (suc (suc due)) ((run_of message ++ run_of associated) ++ rest) in
     let middle = span_run message (suc due) (run_of associated ++ rest) in
     let back = joined (suc (suc due)) (suc due) due (run_of message) (run_of associated) rest middle (span_run associated due rest) in
-    let all = joined (suc (suc (suc due))) (suc (suc due)) due (run_of key) (run_of message ++ run_of associated) rest front back in
+    let all = joined (suc (suc (suc due))) (suc (suc due)) due (run_of key) (run_of message ++ run_of associated) rest prefix back in
     omega (arith, ap (λ n. span n (map parts_of ((run_of key ++ (run_of message ++ run_of associated)) ++ rest))) (plus_three due), all)
 span_run (trees.Sign key message) due rest =
-    let front = span_run key (suc due) (run_of message ++ rest) in
-    let both = joined (suc (suc due)) (suc due) due (run_of key) (run_of message) rest front (span_run message due rest) in
+    let prefix = span_run key (suc due) (run_of message ++ rest) in
+    let both = joined (suc (suc due)) (suc due) due (run_of key) (run_of message) rest prefix (span_run message due rest) in
     omega (arith, ap (λ n. span n (map parts_of ((run_of key ++ run_of message) ++ rest))) (plus_two due), both)
 span_run (trees.Mac key message) due rest =
-    let front = span_run key (suc due) (run_of message ++ rest) in
-    let both = joined (suc (suc due)) (suc due) due (run_of key) (run_of message) rest front (span_run message due rest) in
+    let prefix = span_run key (suc due) (run_of message ++ rest) in
+    let both = joined (suc (suc due)) (suc due) due (run_of key) (run_of message) rest prefix (span_run message due rest) in
     omega (arith, ap (λ n. span n (map parts_of ((run_of key ++ run_of message) ++ rest))) (plus_two due), both)
 span_run (trees.Kdf key context input) due rest =
-    let front = span_run key (suc due) (run_of input ++ rest) in
-    let both = joined (suc (suc due)) (suc due) due (run_of key) (run_of input) rest front (span_run input due rest) in
+    let prefix = span_run key (suc due) (run_of input ++ rest) in
+    let both = joined (suc (suc due)) (suc due) due (run_of key) (run_of input) rest prefix (span_run input due rest) in
     omega (arith, ap (λ n. span n (map parts_of ((run_of key ++ run_of input) ++ rest))) (plus_two due), both)
 span_run (trees.Hash message) due rest = omega (arith, ap (λ n. span n (map parts_of (run_of message ++ rest))) (add-one due), span_run message due rest)

@@ -57,12 +57,12 @@ pub record IsTupleOf (tag : List ℕ) (count : ℕ) (term : Term) (fields : List
 alone : Equals → (tag : List ℕ) (term rest : Term) → is_tuple tag 0 term ≡ true → IsTupleOf tag 0 term (unnested 0 rest)
 alone equals tag term rest same = record { is = equals term (Lit tag) same; many = refl }
 
-with_fields : Equals → (tag : List ℕ) (more : ℕ) (front rest : Term) → is_same front (Lit tag) && has_pairs more rest ≡ true → IsTupleOf tag (suc more) (Pair front rest) (unnested (suc more) rest)
-with_fields equals tag more front rest is =
-    let both = and_parts (is_same front (Lit tag)) (has_pairs more rest) is in
+with_fields : Equals → (tag : List ℕ) (more : ℕ) (prefix rest : Term) → is_same prefix (Lit tag) && has_pairs more rest ≡ true → IsTupleOf tag (suc more) (Pair prefix rest) (unnested (suc more) rest)
+with_fields equals tag more prefix rest is =
+    let both = and_parts (is_same prefix (Lit tag)) (has_pairs more rest) is in
     let inner = nests more rest both.1 in
     record {
-      is = ap (λ (t : Term). Pair t rest) (equals front (Lit tag) both.0) ∙ ap (Pair (Lit tag)) inner.nest ∙ ap (tagged tag) (sym inner.are);
+      is = ap (λ (t : Term). Pair t rest) (equals prefix (Lit tag) both.0) ∙ ap (Pair (Lit tag)) inner.nest ∙ ap (tagged tag) (sym inner.are);
       many = ap length inner.are ∙ ap suc inner.long;
     }
 
@@ -72,7 +72,7 @@ tuple_alone equals tag (suc count) term rest none is = absurd (omega (arith, non
 
 pub tuple_with : Equals → (tag : List ℕ) (count : ℕ) (term rest : Term) → (count ≡ 0 → ⊥) → is_tuple tag count term ≡ true → Some rest ≡ parts.second term → IsTupleOf tag count term (unnested count rest)
 tuple_with equals tag zero term rest some is second = absurd (some refl)
-tuple_with equals tag (suc more) (Pair front back) rest some is second = let same : back ≡ rest = cc in rw (← same) (with_fields equals tag more front back is)
+tuple_with equals tag (suc more) (Pair prefix back) rest some is second = let same : back ≡ rest = cc in rw (← same) (with_fields equals tag more prefix back is)
 tuple_with equals tag (suc more) (Lit text) rest some is second = absurd (cc)
 tuple_with equals tag (suc more) (Name principal) rest some is second = absurd (cc)
 tuple_with equals tag (suc more) (Nonce index) rest some is second = absurd (cc)
@@ -97,7 +97,7 @@ no_tuple itself tag count term none fields many is =
 -- a tuple that has fields has a second part
 pub tuple_second : (tag : List ℕ) (count : ℕ) (term : Term) → (count ≡ 0 → ⊥) → is_tuple tag count term ≡ true → None ≡ parts.second term → ⊥
 tuple_second tag zero term some is none = some refl
-tuple_second tag (suc more) (Pair front back) some is none = cc
+tuple_second tag (suc more) (Pair prefix back) some is none = cc
 tuple_second tag (suc more) (Lit text) some is none = cc
 tuple_second tag (suc more) (Name principal) some is none = cc
 tuple_second tag (suc more) (Nonce index) some is none = cc

@@ -93,7 +93,7 @@ unused_run (trees.Hash k) rest n at = unused_one (run_of k) rest _ n (size k) (l
 steps_one : (node : runs.Node) (A rest : List runs.Node) (SA : List Step) (x : ℕ) (s : Step) → run_steps (A ++ rest) ≡ run_steps rest ++ SA → unused (A ++ rest) ≡ x ∷ unused rest → step_over node (x ∷ unused rest) ≡ s
     → run_steps ((node ∷ A) ++ rest) ≡ run_steps rest ++ (SA ++ s ∷ [])
 steps_one node A rest SA x s steps left is =
-    ap (λ front. front ++ step_over node (unused (A ++ rest)) ∷ []) steps ∙ append_assoc (run_steps rest) SA (step_over node (unused (A ++ rest)) ∷ [])
+    ap (λ prefix. prefix ++ step_over node (unused (A ++ rest)) ∷ []) steps ∙ append_assoc (run_steps rest) SA (step_over node (unused (A ++ rest)) ∷ [])
     ∙ ap (λ step. run_steps rest ++ (SA ++ step ∷ [])) (ap (step_over node) left ∙ is)
 
 steps_two : (node : runs.Node) (A B rest : List runs.Node) (SA SB : List Step) (x y : ℕ) (s : Step) → run_steps (A ++ (B ++ rest)) ≡ run_steps (B ++ rest) ++ SA → run_steps (B ++ rest) ≡ run_steps rest ++ SB
@@ -103,7 +103,7 @@ steps_two node A B rest SA SB x y s first second left_a left_b is =
     let nodes = append_assoc A B rest in
     let left : unused ((A ++ B) ++ rest) ≡ x ∷ y ∷ unused rest = ap unused nodes ∙ left_a ∙ ap (λ more. x ∷ more) left_b in
     let last = step_over node (unused ((A ++ B) ++ rest)) ∷ [] in
-    ap (λ front. front ++ last) (ap run_steps nodes ∙ first ∙ ap (λ front. front ++ SA) second)
+    ap (λ prefix. prefix ++ last) (ap run_steps nodes ∙ first ∙ ap (λ prefix. prefix ++ SA) second)
     ∙ append_assoc (run_steps rest ++ SB) SA last ∙ append_assoc (run_steps rest) SB (SA ++ last)
     ∙ ap (λ step. run_steps rest ++ (SB ++ (SA ++ step ∷ []))) (ap (step_over node) left ∙ is)
 
@@ -140,8 +140,8 @@ steps_run (trees.Aead k m a) rest n at =
     let SM = steps_from i m in
     let SK = steps_from j k in
     let steps : run_steps ((K ++ (M ++ D)) ++ rest) ≡ ((run_steps rest ++ SA) ++ SM) ++ SK =
-    ap run_steps nodes ∙ steps_run k (M ++ (D ++ rest)) j at_j ∙ ap (λ front. front ++ SK) (steps_run m (D ++ rest) i at_i ∙ ap (λ front. front ++ SM) (steps_run a rest n at)) in
-    ap (λ front. front ++ last) steps
+    ap run_steps nodes ∙ steps_run k (M ++ (D ++ rest)) j at_j ∙ ap (λ prefix. prefix ++ SK) (steps_run m (D ++ rest) i at_i ∙ ap (λ prefix. prefix ++ SM) (steps_run a rest n at)) in
+    ap (λ prefix. prefix ++ last) steps
     ∙ append_assoc ((run_steps rest ++ SA) ++ SM) SK last ∙ append_assoc (run_steps rest ++ SA) SM (SK ++ last) ∙ append_assoc (run_steps rest) SA (SM ++ (SK ++ last))
     ∙ ap (λ step. run_steps rest ++ (SA ++ (SM ++ (SK ++ step ∷ [])))) (ap (step_over node) left)
 steps_run (trees.Sign a b) rest n at =
@@ -164,13 +164,13 @@ length-run_steps : (nodes : List runs.Node) → length (run_steps nodes) ≡ len
 length-run_steps [] = refl
 length-run_steps (node ∷ more) = omega (arith, length-append (run_steps more) (step_over node (unused more) ∷ []), length-run_steps more)
 
-step_at : (front : List runs.Node) (node : runs.Node) (back : List runs.Node) (d : Step) → get_or (run_steps (front ++ node ∷ back)) (length back) d ≡ step_over node (unused back)
+step_at : (prefix : List runs.Node) (node : runs.Node) (back : List runs.Node) (d : Step) → get_or (run_steps (prefix ++ node ∷ back)) (length back) d ≡ step_over node (unused back)
 step_at [] node back d =
     ap (λ k. get_or (run_steps (node ∷ back)) k d) (sym (length-run_steps back)) ∙ get_or-append_seam (run_steps back) (step_over node (unused back)) [] d
-step_at (x ∷ front) node back d =
-    get_or-append (run_steps (front ++ node ∷ back)) (step_over x (unused (front ++ node ∷ back)) ∷ []) d (length back)
-    (omega (arith, length-run_steps (front ++ node ∷ back), length-append front (node ∷ back)))
-    ∙ step_at front node back d
+step_at (x ∷ prefix) node back d =
+    get_or-append (run_steps (prefix ++ node ∷ back)) (step_over x (unused (prefix ++ node ∷ back)) ∷ []) d (length back)
+    (omega (arith, length-run_steps (prefix ++ node ∷ back), length-append prefix (node ∷ back)))
+    ∙ step_at prefix node back d
 
 read_at : (contents : Contents) (nodes : List Node) (m : List runs.Node) (i : ℕ) (d : Node) (e : runs.Node) → read_all contents nodes ≡ map Some m → i < length nodes → read contents (get_or nodes i d) ≡ Some (get_or m i e)
 read_at contents [] m i d e all within = absurd (omega (arith, within))

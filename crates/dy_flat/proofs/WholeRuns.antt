@@ -31,11 +31,11 @@ some_at contents (node ∷ nodes) [] i d all within = cc
 some_at contents (node ∷ nodes) (n ∷ m) zero d all within = let first : read contents node ≡ Some n = cc in rw first refl
 some_at contents (node ∷ nodes) (n ∷ m) (suc i) d all within = some_at contents nodes m i d (cc) (omega (arith, within))
 
-pub same_at : (a b : Contents) (front back : List Node) (i : ℕ) (d e : Node) → read_all a front ≡ read_all b back → i < length front → read a (get_or front i d) ≡ read b (get_or back i e)
+pub same_at : (a b : Contents) (prefix back : List Node) (i : ℕ) (d e : Node) → read_all a prefix ≡ read_all b back → i < length prefix → read a (get_or prefix i d) ≡ read b (get_or back i e)
 same_at a b [] back i d e all within = absurd (omega (arith, within))
-same_at a b (m ∷ front) [] i d e all within = cc
-same_at a b (m ∷ front) (n ∷ back) zero d e all within = cc
-same_at a b (m ∷ front) (n ∷ back) (suc i) d e all within = same_at a b front back i d e (cc) (omega (arith, within))
+same_at a b (m ∷ prefix) [] i d e all within = cc
+same_at a b (m ∷ prefix) (n ∷ back) zero d e all within = cc
+same_at a b (m ∷ prefix) (n ∷ back) (suc i) d e all within = same_at a b prefix back i d e (cc) (omega (arith, within))
 
 pub made_some : (make : List ℕ → runs.Node) (found : Option (List ℕ)) → IsSome (option_map make found) → IsSome found
 made_some make (Some text) some = refl

@@ -7,6 +7,7 @@ pub mod MirrorIndexes
 pub mod MirrorSpans
 pub mod MirrorTuples
 pub mod MirrorWalks
+pub mod NodeMeaning
 pub mod Openings
 pub mod PartMeaning
 pub mod Parts

@@ -1,5 +1,5 @@
 -- What nodes, views and shapes of the code stand for.
-use Rattle.std.specs.Prelude.{◌≡◌, ℕ, Bool, true, false, Option, Some, None}
+use Rattle.std.specs.Prelude.{◌≡◌, ℕ, Option, Some, None}
 use Rattle.std.specs.Prelude.{List, [], ◌∷◌, map, slice_get}
 use Rattle.std.specs.Option.{option_map}
 use Rattle.dy_flat.specs.declared.flat_nodes.Node.{Node}
@@ -55,22 +55,3 @@ arity (code.Sign before) = 2
 arity (code.Mac before) = 2
 arity (code.Kdf place) = 2
 arity code.Hash = 1
-
--- whether a node has no text and no name
-abbrev pub is_plain : Node → Bool
-is_plain (code.Lit place) = false
-is_plain (code.Name place) = false
-is_plain (code.Kdf place) = false
-is_plain _ = true
-
--- what such a node stands for
-abbrev pub plain : Node → runs.Node
-plain (code.Nonce index) = runs.Nonce index
-plain (code.Pair before) = runs.Pair before
-plain code.Pk = runs.Pk
-plain code.Vk = runs.Vk
-plain (code.Penc before) = runs.Penc before
-plain (code.Aead before) = runs.Aead before
-plain (code.Sign before) = runs.Sign before
-plain (code.Mac before) = runs.Mac before
-plain _ = runs.Hash

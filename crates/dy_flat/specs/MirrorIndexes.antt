@@ -1,11 +1,12 @@
 -- Where texts or names are looked up, by classes of their bytes. It mirrors the code, and is there for speed alone.
 use Rattle.std.specs.Prelude.{◌≡◌, ℕ, ◌+◌, ◌*◌, ◌%◌, ◌<◌, ◌≤◌, Some, List, [], ◌∷◌, length, slice_get, slice_index}
 use Rattle.dy_flat.specs.declared.indexing.Index.{Index}
+use Rattle.dy_flat.specs.declared.indexing.TheConstants.{CLASSES}
 
--- one of 128 classes, by bytes after others
+-- one of the classes, by bytes after others
 abbrev pub class_after : ℕ → List ℕ → ℕ
 class_after class [] = class
-class_after class (byte ∷ more) = class_after ((class * 31 + byte) % 128) more
+class_after class (byte ∷ more) = class_after ((class * 31 + byte) % CLASSES) more
 
 abbrev pub class_of : List ℕ → ℕ
 class_of bytes = class_after 0 bytes
@@ -21,7 +22,7 @@ pub record Skips {A : Type 0} (bytes : A → List ℕ) (kept : List A) (class fr
 -- Of the first of these, as many as there are links, each class has its last one, and each of them the one before it.
 pub record Covers {A : Type 0} (bytes : A → List ℕ) (kept : List A) (lasts links : List ℕ) : Type 0 where
   pub within : length links ≤ length kept
-  pub last : (class : ℕ) → class < 128 → Skips bytes kept class (slice_index lasts class) (length links)
+  pub last : (class : ℕ) → class < CLASSES → Skips bytes kept class (slice_index lasts class) (length links)
   pub link : (place : ℕ) (one : A) → place < length links → slice_get kept place ≡ Some one
       → Skips bytes kept (class_of (bytes one)) (slice_index links place) place
 

@@ -1,11 +1,11 @@
-ghost use Rattle.std.specs.Prelude.{◌≡◌, ◌∷◌, ◌++◌, true, IfOk, length, reverse};
+ghost use Rattle.std.specs.Prelude.{◌≡◌, ◌∷◌, ◌++◌, IfOk, length, reverse};
 ghost use Rattle.dy_term.specs.Meaning as terms;
-ghost use Rattle.dy_flat.specs.Meaning.{is_plain, plain};
+ghost use Rattle.dy_flat.specs.NodeMeaning.{node_of};
 ghost use Rattle.dy_flat.specs.Runs.{run_of};
 ghost use Rattle.dy_flat.specs.Views.{tree_of};
 
-use crate::flat_nodes::Node;
 use crate::flat_terms::FlatTerm;
+use crate::lent_nodes::LentNode;
 use crate::parts::{Parts, take_apart};
 use crate::places::as_number;
 use crate::runs::Run;
@@ -19,18 +19,18 @@ fn push_tree(run: &mut Run, term: &Term) -> Result<(), Memory>
     ensures { IfOk result (λ _. run.new ≡ run.old ++ reverse (run_of (terms.tree_of term.now))) }
 {
     match term {
-        Term::Lit(text) => run.push_lit(text),
-        Term::Name(name) => run.push_name(name),
-        Term::Nonce(index) => run.push(Node::Nonce(*index)),
+        Term::Lit(text) => run.push(LentNode::Lit(text)),
+        Term::Name(name) => run.push(LentNode::Name(name)),
+        Term::Nonce(index) => run.push(LentNode::Nonce(*index)),
         Term::Pair(first, second) => {
             let before = push_two(run, first, second)?;
-            run.push(Node::Pair(before))
+            run.push(LentNode::Pair(before))
         }
-        Term::Pk(key) => push_one(run, key, Node::Pk),
-        Term::Vk(key) => push_one(run, key, Node::Vk),
+        Term::Pk(key) => push_one(run, key, LentNode::Pk),
+        Term::Vk(key) => push_one(run, key, LentNode::Vk),
         Term::Penc(to, message) => {
             let before = push_two(run, to, message)?;
-            run.push(Node::Penc(before))
+            run.push(LentNode::Penc(before))
         }
         Term::Aead(key, message, associated) => {
             push_tree(run, associated)?;
@@ -38,30 +38,29 @@ fn push_tree(run: &mut Run, term: &Term) -> Result<(), Memory>
             push_tree(run, message)?;
             push_tree(run, key)?;
             let before = as_number(run.len() - end)?;
-            run.push(Node::Aead(before))
+            run.push(LentNode::Aead(before))
         }
         Term::Sign(key, message) => {
             let before = push_two(run, key, message)?;
-            run.push(Node::Sign(before))
+            run.push(LentNode::Sign(before))
         }
         Term::Mac(key, message) => {
             let before = push_two(run, key, message)?;
-            run.push(Node::Mac(before))
+            run.push(LentNode::Mac(before))
         }
         Term::Kdf(key, context, input) => {
             push_tree(run, input)?;
             push_tree(run, key)?;
-            run.push_kdf(context)
+            run.push(LentNode::Kdf(context))
         }
-        Term::Hash(message) => push_one(run, message, Node::Hash),
+        Term::Hash(message) => push_one(run, message, LentNode::Hash),
     }
 }
 
 /// Adds the nodes of a part and then a node.
 #[cycle(flatten)]
-fn push_one(run: &mut Run, part: &Term, node: Node) -> Result<(), Memory>
-    requires { is_plain node ≡ true }
-    ensures { IfOk result (λ _. run.new ≡ run.old ++ reverse (plain node ∷ run_of (terms.tree_of part.now))) }
+fn push_one(run: &mut Run, part: &Term, node: LentNode) -> Result<(), Memory>
+    ensures { IfOk result (λ _. run.new ≡ run.old ++ reverse (node_of node.entry ∷ run_of (terms.tree_of part.now))) }
 {
     push_tree(run, part)?;
     run.push(node)
@@ -91,7 +90,7 @@ pub fn from_tree(alloc: Global, term: &Term) -> Result<FlatTerm, Memory>
     Ok(FlatTerm::of_run(run))
 }
 
-fn boxed(alloc: Global, term: Term) -> Result<Box<Term>, Memory>
+fn in_box(alloc: Global, term: Term) -> Result<Box<Term>, Memory>
     ensures { IfOk result (λ made. made.value ≡ term) }
 {
     Ok(Box::new(alloc, term)?)
@@ -106,38 +105,38 @@ pub fn to_tree(alloc: Global, view: View) -> Result<Term, Memory>
         Parts::Name(name) => Ok(Term::Name(name.copy())),
         Parts::Nonce(index) => Ok(Term::Nonce(index)),
         Parts::Pair(first, second) => {
-            let first = boxed(alloc, to_tree(alloc, first)?)?;
-            let second = boxed(alloc, to_tree(alloc, second)?)?;
+            let first = in_box(alloc, to_tree(alloc, first)?)?;
+            let second = in_box(alloc, to_tree(alloc, second)?)?;
             Ok(Term::Pair(first, second))
         }
-        Parts::Pk(key) => Ok(Term::Pk(boxed(alloc, to_tree(alloc, key)?)?)),
-        Parts::Vk(key) => Ok(Term::Vk(boxed(alloc, to_tree(alloc, key)?)?)),
+        Parts::Pk(key) => Ok(Term::Pk(in_box(alloc, to_tree(alloc, key)?)?)),
+        Parts::Vk(key) => Ok(Term::Vk(in_box(alloc, to_tree(alloc, key)?)?)),
         Parts::Penc(to, message) => {
-            let to = boxed(alloc, to_tree(alloc, to)?)?;
-            let message = boxed(alloc, to_tree(alloc, message)?)?;
+            let to = in_box(alloc, to_tree(alloc, to)?)?;
+            let message = in_box(alloc, to_tree(alloc, message)?)?;
             Ok(Term::Penc(to, message))
         }
         Parts::Aead(key, message, associated) => {
-            let key = boxed(alloc, to_tree(alloc, key)?)?;
-            let message = boxed(alloc, to_tree(alloc, message)?)?;
-            let associated = boxed(alloc, to_tree(alloc, associated)?)?;
+            let key = in_box(alloc, to_tree(alloc, key)?)?;
+            let message = in_box(alloc, to_tree(alloc, message)?)?;
+            let associated = in_box(alloc, to_tree(alloc, associated)?)?;
             Ok(Term::Aead(key, message, associated))
         }
         Parts::Sign(key, message) => {
-            let key = boxed(alloc, to_tree(alloc, key)?)?;
-            let message = boxed(alloc, to_tree(alloc, message)?)?;
+            let key = in_box(alloc, to_tree(alloc, key)?)?;
+            let message = in_box(alloc, to_tree(alloc, message)?)?;
             Ok(Term::Sign(key, message))
         }
         Parts::Mac(key, message) => {
-            let key = boxed(alloc, to_tree(alloc, key)?)?;
-            let message = boxed(alloc, to_tree(alloc, message)?)?;
+            let key = in_box(alloc, to_tree(alloc, key)?)?;
+            let message = in_box(alloc, to_tree(alloc, message)?)?;
             Ok(Term::Mac(key, message))
         }
         Parts::Kdf(key, context, input) => {
-            let key = boxed(alloc, to_tree(alloc, key)?)?;
-            let input = boxed(alloc, to_tree(alloc, input)?)?;
+            let key = in_box(alloc, to_tree(alloc, key)?)?;
+            let input = in_box(alloc, to_tree(alloc, input)?)?;
             Ok(Term::Kdf(key, context.copy(), input))
         }
-        Parts::Hash(message) => Ok(Term::Hash(boxed(alloc, to_tree(alloc, message)?)?)),
+        Parts::Hash(message) => Ok(Term::Hash(in_box(alloc, to_tree(alloc, message)?)?)),
     }
 }

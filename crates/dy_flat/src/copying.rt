@@ -6,13 +6,14 @@ ghost use Rattle.dy_flat.specs.Views.{tree_of};
 use crate::contents::Contents;
 use crate::flat_nodes::Node;
 use crate::flat_terms::FlatTerm;
+use crate::lent_nodes::lent;
 use crate::runs::Run;
 use crate::views::View;
 use dy_term::Memory;
 use std::alloc::Global;
 
 /// A lent term, in memory of its own. The one refusal is out of memory.
-pub fn copied(alloc: Global, view: View) -> Result<FlatTerm, Memory>
+pub fn copy_of(alloc: Global, view: View) -> Result<FlatTerm, Memory>
     ensures { IfOk result (λ made. made ≡ tree_of view.entry) }
 {
     let mut run = Run::with_room(alloc, view.nodes.len())?;
@@ -26,20 +27,7 @@ impl Run {
         requires { IsSome (read contents.now node) }
         ensures { IfOk result (λ _. map Some self.new ≡ map Some self.old ++ read contents.now node ∷ []) }
     {
-        match node {
-            Node::Lit(place) => self.push_lit(contents.text(place)),
-            Node::Name(place) => self.push_name(contents.name(place)),
-            Node::Kdf(place) => self.push_kdf(contents.text(place)),
-            Node::Nonce(_)
-            | Node::Pair(_)
-            | Node::Pk
-            | Node::Vk
-            | Node::Penc(_)
-            | Node::Aead(_)
-            | Node::Sign(_)
-            | Node::Mac(_)
-            | Node::Hash => self.push(node),
-        }
+        self.push(lent(node, contents))
     }
 
     /// Adds the nodes of a term.

@@ -47,7 +47,7 @@ impl FlatTerm {
         let Run { nodes, contents } = run;
         FlatTerm {
             nodes,
-            contents: contents.finished(),
+            contents: contents.into_contents(),
         }
     }
 

@@ -1,7 +1,9 @@
 ghost use Rattle.dy_flat.specs.MirrorIndexes.{Indexes};
 
 use crate::contents::Contents;
+use crate::flat_nodes::Node;
 use crate::indexing::Index;
+use crate::lent_nodes::LentNode;
 use crate::places::place;
 use dy_term::{Memory, Text, Word};
 use std::alloc::Global;
@@ -19,6 +21,8 @@ pub(crate) struct Growing {
 impl Growing {
     ghost use Rattle.std.specs.Prelude.{◌≡◌, [], Some, slice_get, IfOk};
     ghost use Rattle.dy_flat.specs.Growth.{Grows};
+    ghost use Rattle.dy_flat.specs.Meaning.{read};
+    ghost use Rattle.dy_flat.specs.NodeMeaning.{node_of};
 
     pub(crate) fn new(alloc: Global) -> Growing
         ensures texts { result.contents.texts.items ≡ [] }
@@ -32,7 +36,7 @@ impl Growing {
     }
 
     /// The contents alone.
-    pub(crate) fn finished(self) -> Contents
+    pub(crate) fn into_contents(self) -> Contents
         ensures { result ≡ self.contents }
     {
         let Growing { contents, .. } = self;
@@ -53,5 +57,27 @@ impl Growing {
         ensures kept { Grows self.old.contents self.new.contents }
     {
         place(&mut self.contents.names, &mut self.names, name)
+    }
+
+    /// The node with the place of its text or name, which is added where it does not stand yet.
+    #[tactic(auto, using(crate::proofs::Lookups::grows_by_none))]
+    pub(crate) fn place_node(&mut self, node: LentNode) -> Result<Node, Memory>
+        ensures node { IfOk result (λ placed. read self.new.contents placed ≡ Some (node_of node.entry)) }
+        ensures kept { Grows self.old.contents self.new.contents }
+    {
+        match node {
+            LentNode::Lit(text) => Ok(Node::Lit(self.place_text(text)?)),
+            LentNode::Name(name) => Ok(Node::Name(self.place_name(name)?)),
+            LentNode::Nonce(index) => Ok(Node::Nonce(index)),
+            LentNode::Pair(before) => Ok(Node::Pair(before)),
+            LentNode::Pk => Ok(Node::Pk),
+            LentNode::Vk => Ok(Node::Vk),
+            LentNode::Penc(before) => Ok(Node::Penc(before)),
+            LentNode::Aead(before) => Ok(Node::Aead(before)),
+            LentNode::Sign(before) => Ok(Node::Sign(before)),
+            LentNode::Mac(before) => Ok(Node::Mac(before)),
+            LentNode::Kdf(context) => Ok(Node::Kdf(self.place_text(context)?)),
+            LentNode::Hash => Ok(Node::Hash),
+        }
     }
 }

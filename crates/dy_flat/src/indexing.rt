@@ -9,7 +9,7 @@ use dy_term::Memory;
 use std::alloc::Global;
 
 /// How many classes there are.
-const CLASSES: usize = 128;
+pub(crate) const CLASSES: usize = 128;
 
 /// How many texts or names are looked through before they are taken in.
 const FEW: usize = 8;
@@ -17,7 +17,7 @@ const FEW: usize = 8;
 /// The class of bytes.
 pub(crate) fn class(bytes: &[u8]) -> usize
     ensures class { result ≡ class_of bytes.now }
-    ensures few { result < 128 }
+    ensures few { result < CLASSES }
 {
     let mut class = 0usize;
     for byte in bytes {
@@ -103,10 +103,10 @@ impl Index {
     /// Takes in the next one.
     fn take_in<C: Content>(&mut self, kept: &[C]) -> Result<(), Memory>
         requires covers { Indexes C.bytes kept.now self.old }
-        requires classes { length self.old.lasts.items ≡ 128 }
+        requires classes { length self.old.lasts.items ≡ CLASSES }
         requires more { length self.old.links.items < length kept.now }
         ensures covers { Indexes C.bytes kept.now self.new }
-        ensures classes { length self.new.lasts.items ≡ 128 }
+        ensures classes { length self.new.lasts.items ≡ CLASSES }
         ensures one { IfOk result (λ _. length self.new.links.items ≡ length self.old.links.items + 1) }
     {
         let place = self.links.len();

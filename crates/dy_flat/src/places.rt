@@ -6,7 +6,7 @@ ghost use Rattle.dy_flat.specs.Differing.{all_differ};
 ghost use Rattle.dy_flat.specs.Extending.{Extends};
 ghost use Rattle.dy_flat.specs.MirrorIndexes.{class_of, Indexes};
 
-use crate::indexing::{Index, class};
+use crate::indexing::{CLASSES, Index, class};
 use dy_term::{Memory, Text, Word};
 use std::alloc::Global;
 
@@ -24,7 +24,7 @@ pub(crate) trait Content: Drop {
     /// The class by which it is looked up.
     fn class(&self) -> usize
         ensures class { result ≡ class_of (bytes self.now) }
-        ensures few { result < 128 };
+        ensures few { result < CLASSES };
 
     ghost told_by_bytes: { (a b : Self) → bytes a ≡ bytes b → a ≡ b };
 }

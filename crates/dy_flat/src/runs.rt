@@ -1,11 +1,11 @@
 ghost use Rattle.std.specs.Prelude.{◌≡◌, ◌∷◌, [], ◌++◌, length, reverse};
-ghost use Rattle.std.specs.Prelude.{IfOk, is_ok, true, if◌then◌else◌};
-ghost use Rattle.dy_flat.specs.Runs as runs;
-ghost use Rattle.dy_flat.specs.Meaning.{is_plain, plain};
+ghost use Rattle.std.specs.Prelude.{IfOk, is_ok, if◌then◌else◌};
+ghost use Rattle.dy_flat.specs.NodeMeaning.{node_of};
 
 use crate::flat_nodes::Node;
 use crate::growing::Growing;
-use dy_term::{Memory, Text, Word};
+use crate::lent_nodes::LentNode;
+use dy_term::Memory;
 use std::alloc::Global;
 use std::marker::Model;
 
@@ -68,33 +68,12 @@ impl Run {
         self.nodes.len()
     }
 
-    /// Adds a node that has no text or name.
-    pub(crate) fn push(&mut self, node: Node) -> Result<(), Memory>
-        requires { is_plain node ≡ true }
-        ensures { IfOk result (λ _. self.new ≡ self.old ++ plain node ∷ []) }
+    /// Adds a node.
+    pub(crate) fn push(&mut self, node: LentNode) -> Result<(), Memory>
+        ensures { IfOk result (λ _. self.new ≡ self.old ++ node_of node.entry ∷ []) }
     {
-        add(&mut self.nodes, node)
-    }
-
-    pub(crate) fn push_lit(&mut self, text: &Text) -> Result<(), Memory>
-        ensures { IfOk result (λ _. self.new ≡ self.old ++ runs.Lit text.now ∷ []) }
-    {
-        let place = self.contents.place_text(text)?;
-        add(&mut self.nodes, Node::Lit(place))
-    }
-
-    pub(crate) fn push_name(&mut self, name: &Word) -> Result<(), Memory>
-        ensures { IfOk result (λ _. self.new ≡ self.old ++ runs.Name name.now ∷ []) }
-    {
-        let place = self.contents.place_name(name)?;
-        add(&mut self.nodes, Node::Name(place))
-    }
-
-    pub(crate) fn push_kdf(&mut self, context: &Text) -> Result<(), Memory>
-        ensures { IfOk result (λ _. self.new ≡ self.old ++ runs.Kdf context.now ∷ []) }
-    {
-        let place = self.contents.place_text(context)?;
-        add(&mut self.nodes, Node::Kdf(place))
+        let placed = self.contents.place_node(node)?;
+        add(&mut self.nodes, placed)
     }
 
     /// Turns the order of the nodes round.

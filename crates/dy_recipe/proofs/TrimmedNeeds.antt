@@ -5,11 +5,11 @@ use Rattle.std.proofs.lemmas.List.{append_assoc, append-nil, length-append, get_
 use Rattle.std.proofs.Math.ListN.{get_or-append}
 use Rattle.std.proofs.Math.Seq.{get_or-append_seam, take-append_seam}
 use Rattle.dy_recipe.specs.Moves.{Move, Message, Cert, Forge, State, Lit, Name, Pair, Pk, Vk, Penc, Aead, Sign, Mac, Kdf, Hash, Fst, Snd, Pdec, Adec, Ad, Body}
-use Rattle.dy_recipe.specs.Trimming.{numbers_of, EachIsNeeded, new_number, renumbered}
+use Rattle.dy_recipe.specs.Trimming.{numbers_of, EachIsNeeded, new_number, renumber}
 use Rattle.dy_recipe.specs.MirrorTrimming.{IsMarked, AreClosed, kept_moves}
-use Rattle.dy_recipe.proofs.TrimmedValues.{place_cases, number_at, mark_at, front_at, end_at}
+use Rattle.dy_recipe.proofs.TrimmedValues.{place_cases, number_at, mark_at, prefix_at, end_at}
 
-numbers_renumbered : (new : ℕ → ℕ) → new 0 ≡ 0 → (move : Move) → numbers_of (renumbered new move) ≡ map new (numbers_of move)
+numbers_renumbered : (new : ℕ → ℕ) → new 0 ≡ 0 → (move : Move) → numbers_of (renumber new move) ≡ map new (numbers_of move)
 numbers_renumbered new zero_is (Message index) = cc
 numbers_renumbered new zero_is (Cert index) = cc
 numbers_renumbered new zero_is (Forge index) = cc
@@ -38,18 +38,18 @@ get_map f (y ∷ xs) zero x at = let is : y ≡ x = cc in ap (λ z. Some (f z)) 
 get_map f (y ∷ xs) (suc k) x at = get_map f xs k x at
 
 -- Where the kept moves stand, and what they name.
-pub record Standing (numbers : List ℕ) (marks : List Bool) (front kept : List Move) : Type 0 where
-  pub each : length numbers ≡ length front
-  pub marked_each : length marks ≡ length front
+pub record Standing (numbers : List ℕ) (marks : List Bool) (prefix kept : List Move) : Type 0 where
+  pub each : length numbers ≡ length prefix
+  pub marked_each : length marks ≡ length prefix
   pub some : (i : ℕ) → IsMarked marks i → 0 < get_or numbers i 0
   pub few : (i : ℕ) → IsMarked marks i → get_or numbers i 0 ≤ length kept
   pub rising : (i j : ℕ) → i < j → IsMarked marks i → IsMarked marks j → get_or numbers i 0 < get_or numbers j 0
   pub from : (p : ℕ) → p < length kept → (i : ℕ) × (IsMarked marks i × (get_or numbers i 0 ≡ p + 1))
-  pub names : (i j k : ℕ) (move : Move) → IsMarked marks j → slice_get front j ≡ Some move → slice_get (numbers_of move) k ≡ Some (i + 1) → i < j → IsMarked marks i
+  pub names : (i j k : ℕ) (move : Move) → IsMarked marks j → slice_get prefix j ≡ Some move → slice_get (numbers_of move) k ≡ Some (i + 1) → i < j → IsMarked marks i
       → (new : Move) × ((slice_get kept (get_or numbers j 0 - 1) ≡ Some new) × (slice_get (numbers_of new) k ≡ Some (get_or numbers i 0)))
   pub only : (i : ℕ) → 0 < get_or numbers i 0 → IsMarked marks i
-  pub moves : (j : ℕ) (move : Move) → IsMarked marks j → slice_get front j ≡ Some move
-      → slice_get kept (get_or numbers j 0 - 1) ≡ Some (renumbered (new_number (take j numbers)) move)
+  pub moves : (j : ℕ) (move : Move) → IsMarked marks j → slice_get prefix j ≡ Some move
+      → slice_get kept (get_or numbers j 0 - 1) ≡ Some (renumber (new_number (take j numbers)) move)
 
 pub marked_less : (marks : List Bool) (i : ℕ) → IsMarked marks i → i < length marks
 marked_less marks i marked =
@@ -81,13 +81,13 @@ standing_none = record {
   moves = λ j move marked at. let less = marked_less [] j marked in absurd (omega (arith, less));
 }
 
-standing_left : (numbers : List ℕ) (marks : List Bool) (front kept : List Move) (step : Move) → Standing numbers marks front kept → Standing (numbers ++ 0 ∷ []) (marks ++ false ∷ []) (front ++ step ∷ []) kept
-standing_left numbers marks front kept step st =
+standing_left : (numbers : List ℕ) (marks : List Bool) (prefix kept : List Move) (step : Move) → Standing numbers marks prefix kept → Standing (numbers ++ 0 ∷ []) (marks ++ false ∷ []) (prefix ++ step ∷ []) kept
+standing_left numbers marks prefix kept step st =
     let same = λ (i : ℕ) (less : i < length marks).
     let is : get_or (numbers ++ 0 ∷ []) i 0 ≡ get_or numbers i 0 = get_or-append numbers (0 ∷ []) 0 i (omega (arith, less, st.marked_each, st.each)) in is in
     record {
-      each = omega (arith, length-append numbers (0 ∷ []), length-append front (step ∷ []), st.each);
-      marked_each = omega (arith, length-append marks (false ∷ []), length-append front (step ∷ []), st.marked_each);
+      each = omega (arith, length-append numbers (0 ∷ []), length-append prefix (step ∷ []), st.each);
+      marked_each = omega (arith, length-append marks (false ∷ []), length-append prefix (step ∷ []), st.marked_each);
       some = λ i marked. let w = was marks i marked in omega (arith, same i w.0, st.some i w.1);
       few = λ i marked. let w = was marks i marked in omega (arith, same i w.0, st.few i w.1);
       rising = λ i j order one other.
@@ -100,7 +100,7 @@ standing_left numbers marks front kept step st =
       names = λ i j k move marked at named order one.
           let w = was marks i one in
           let v = was marks j marked in
-          let stands : slice_get front j ≡ Some move = sym (front_at front step j (omega (arith, v.0, st.marked_each))) ∙ at in
+          let stands : slice_get prefix j ≡ Some move = sym (prefix_at prefix step j (omega (arith, v.0, st.marked_each))) ∙ at in
           let found = st.names i j k move v.1 stands named order w.1 in
           (found.0, (ap (λ n. slice_get kept (n - 1)) (same j v.0) ∙ found.1.0, found.1.1 ∙ ap (λ (n : ℕ). Some n) (sym (same i w.0))));
       only = λ i positive. elim (number_at numbers 0 i positive) [
@@ -109,15 +109,15 @@ standing_left numbers marks front kept step st =
       ];
       moves = λ j move marked at.
           let v = was marks j marked in
-          let stands : slice_get front j ≡ Some move = sym (front_at front step j (omega (arith, v.0, st.marked_each))) ∙ at in
+          let stands : slice_get prefix j ≡ Some move = sym (prefix_at prefix step j (omega (arith, v.0, st.marked_each))) ∙ at in
           let earlier : take j (numbers ++ 0 ∷ []) ≡ take j numbers = take-append-le j numbers (0 ∷ []) (omega (arith, v.0, st.marked_each, st.each)) in
-          ap (λ n. slice_get kept (n - 1)) (same j v.0) ∙ st.moves j move v.1 stands ∙ ap (λ xs. Some (renumbered (new_number xs) move)) (sym earlier);
+          ap (λ n. slice_get kept (n - 1)) (same j v.0) ∙ st.moves j move v.1 stands ∙ ap (λ xs. Some (renumber (new_number xs) move)) (sym earlier);
     }
 
-standing_kept : (numbers : List ℕ) (marks : List Bool) (front kept : List Move) (step : Move) (n : ℕ) → n ≡ length kept + 1 → Standing numbers marks front kept
-    → Standing (numbers ++ n ∷ []) (marks ++ true ∷ []) (front ++ step ∷ []) (kept ++ renumbered (new_number numbers) step ∷ [])
-standing_kept numbers marks front kept step n at_end st =
-    let new = renumbered (new_number numbers) step in
+standing_kept : (numbers : List ℕ) (marks : List Bool) (prefix kept : List Move) (step : Move) (n : ℕ) → n ≡ length kept + 1 → Standing numbers marks prefix kept
+    → Standing (numbers ++ n ∷ []) (marks ++ true ∷ []) (prefix ++ step ∷ []) (kept ++ renumber (new_number numbers) step ∷ [])
+standing_kept numbers marks prefix kept step n at_end st =
+    let new = renumber (new_number numbers) step in
     let long : length (kept ++ new ∷ []) ≡ length kept + 1 = omega (arith, length-append kept (new ∷ [])) in
     let same = λ (i : ℕ) (less : i < length marks).
     let is : get_or (numbers ++ n ∷ []) i 0 ≡ get_or numbers i 0 = get_or-append numbers (n ∷ []) 0 i (omega (arith, less, st.marked_each, st.each)) in is in
@@ -125,8 +125,8 @@ standing_kept numbers marks front kept step n at_end st =
     let at : i ≡ length numbers = omega (arith, here, st.marked_each, st.each) in
     let is : get_or (numbers ++ n ∷ []) i 0 ≡ n = ap (λ k. get_or (numbers ++ n ∷ []) k 0) at ∙ get_or-append_seam numbers n [] 0 in is in
     record {
-      each = omega (arith, length-append numbers (n ∷ []), length-append front (step ∷ []), st.each);
-      marked_each = omega (arith, length-append marks (true ∷ []), length-append front (step ∷ []), st.marked_each);
+      each = omega (arith, length-append numbers (n ∷ []), length-append prefix (step ∷ []), st.each);
+      marked_each = omega (arith, length-append marks (true ∷ []), length-append prefix (step ∷ []), st.marked_each);
       some = λ i marked. elim (mark_at marks true i marked) [
         | inl w ↦ omega (arith, same i w.0, st.some i w.1)
         | inr h ↦ omega (arith, here_is i h.0, at_end)
@@ -156,16 +156,16 @@ standing_kept numbers marks front kept step n at_end st =
           let i_marked : IsMarked marks i = sym (get_or-append marks (true ∷ []) false i i_less) ∙ one in
           elim (mark_at marks true j marked) [
             | inl v ↦
-                let stands : slice_get front j ≡ Some move = sym (front_at front step j (omega (arith, v.0, st.marked_each))) ∙ at in
+                let stands : slice_get prefix j ≡ Some move = sym (prefix_at prefix step j (omega (arith, v.0, st.marked_each))) ∙ at in
                 let found = st.names i j k move v.1 stands named order i_marked in (
                   found.0,
                   (
-                    ap (λ m. slice_get (kept ++ new ∷ []) (m - 1)) (same j v.0) ∙ front_at kept new (get_or numbers j 0 - 1) (omega (arith, st.some j v.1, st.few j v.1)) ∙ found.1.0,
+                    ap (λ m. slice_get (kept ++ new ∷ []) (m - 1)) (same j v.0) ∙ prefix_at kept new (get_or numbers j 0 - 1) (omega (arith, st.some j v.1, st.few j v.1)) ∙ found.1.0,
                     found.1.1 ∙ ap (λ (m : ℕ). Some m) (sym (same i i_less)),
                   ),
                 )
             | inr h ↦
-                let this : Some step ≡ Some move = sym (end_at front step j (omega (arith, h.0, st.marked_each))) ∙ at in
+                let this : Some step ≡ Some move = sym (end_at prefix step j (omega (arith, h.0, st.marked_each))) ∙ at in
                 let is : step ≡ move = cc in
                 let names_it : slice_get (numbers_of step) k ≡ Some (suc i) = ap (λ m. slice_get (numbers_of m) k) is ∙ named ∙ ap (λ (m : ℕ). Some m) (omega arith) in (
                   new,
@@ -183,17 +183,17 @@ standing_kept numbers marks front kept step n at_end st =
       ];
       moves = λ j move marked at. elim (mark_at marks true j marked) [
         | inl v ↦
-            let stands : slice_get front j ≡ Some move = sym (front_at front step j (omega (arith, v.0, st.marked_each))) ∙ at in
+            let stands : slice_get prefix j ≡ Some move = sym (prefix_at prefix step j (omega (arith, v.0, st.marked_each))) ∙ at in
             let earlier : take j (numbers ++ n ∷ []) ≡ take j numbers = take-append-le j numbers (n ∷ []) (omega (arith, v.0, st.marked_each, st.each)) in
-            ap (λ m. slice_get (kept ++ new ∷ []) (m - 1)) (same j v.0) ∙ front_at kept new (get_or numbers j 0 - 1) (omega (arith, st.some j v.1, st.few j v.1))
-            ∙ st.moves j move v.1 stands ∙ ap (λ xs. Some (renumbered (new_number xs) move)) (sym earlier)
+            ap (λ m. slice_get (kept ++ new ∷ []) (m - 1)) (same j v.0) ∙ prefix_at kept new (get_or numbers j 0 - 1) (omega (arith, st.some j v.1, st.few j v.1))
+            ∙ st.moves j move v.1 stands ∙ ap (λ xs. Some (renumber (new_number xs) move)) (sym earlier)
         | inr h ↦
-            let this : Some step ≡ Some move = sym (end_at front step j (omega (arith, h.0, st.marked_each))) ∙ at in
+            let this : Some step ≡ Some move = sym (end_at prefix step j (omega (arith, h.0, st.marked_each))) ∙ at in
             let is : step ≡ move = cc in
             let place : j ≡ length numbers = omega (arith, h.0, st.marked_each, st.each) in
             let earlier : take j (numbers ++ n ∷ []) ≡ numbers = ap (λ m. take m (numbers ++ n ∷ [])) place ∙ take-append_seam numbers (n ∷ []) in
             end_at kept new (get_or (numbers ++ n ∷ []) j 0 - 1) (omega (arith, here_is j h.0, at_end))
-            ∙ ap (λ m. Some (renumbered (new_number numbers) m)) is ∙ ap (λ xs. Some (renumbered (new_number xs) move)) (sym earlier)
+            ∙ ap (λ m. Some (renumber (new_number numbers) m)) is ∙ ap (λ xs. Some (renumber (new_number xs) move)) (sym earlier)
       ];
     }
 
@@ -229,29 +229,29 @@ all_needed moves marks closed numbers kept st p less =
           ]
     ]
 
-moved : (numbers : List ℕ) (marks now : List Bool) (front all kept : List Move) → marks ≡ now → front ≡ all → Standing numbers marks front kept → Standing numbers now all kept
-moved numbers marks now front all kept same_marks same_front st =
+moved : (numbers : List ℕ) (marks now : List Bool) (prefix all kept : List Move) → marks ≡ now → prefix ≡ all → Standing numbers marks prefix kept → Standing numbers now all kept
+moved numbers marks now prefix all kept same_marks same_prefix st =
     let P : List Bool → Type 0 = λ m. Standing numbers m all kept in
     let Q : List Move → Type 0 = λ f. Standing numbers marks f kept in
-    subst P same_marks (subst Q same_front st)
+    subst P same_marks (subst Q same_prefix st)
 
 -- Where all moves are passed, what is kept of them stands.
-all_stands : (moves : List Move) (marks : List Bool) → AreClosed moves marks → (front more : List Move) (done left : List Bool) → moves ≡ front ++ more → marks ≡ done ++ left
-    → (numbers : List ℕ) (kept : List Move) → Standing numbers done front kept → (last : List ℕ) × Standing last marks moves (kept_moves numbers kept more left)
-all_stands moves marks closed front [] done [] split marked numbers kept st =
-    let front_is : front ≡ moves = sym (split ∙ append-nil front) in
+all_stands : (moves : List Move) (marks : List Bool) → AreClosed moves marks → (prefix more : List Move) (done left : List Bool) → moves ≡ prefix ++ more → marks ≡ done ++ left
+    → (numbers : List ℕ) (kept : List Move) → Standing numbers done prefix kept → (last : List ℕ) × Standing last marks moves (kept_moves numbers kept more left)
+all_stands moves marks closed prefix [] done [] split marked numbers kept st =
+    let prefix_is : prefix ≡ moves = sym (split ∙ append-nil prefix) in
     let done_is : done ≡ marks = sym (marked ∙ append-nil done) in
-    (numbers, moved numbers done marks front moves kept done_is front_is st)
-all_stands moves marks closed front [] done (mark ∷ left) split marked numbers kept st =
-    let bad : ⊥ = omega (arith, closed.each, ap length split, ap length marked, length-append front [], length-append done (mark ∷ left), st.marked_each) in absurd bad
-all_stands moves marks closed front (step ∷ more) done [] split marked numbers kept st =
-    let bad : ⊥ = omega (arith, closed.each, ap length split, ap length marked, length-append front (step ∷ more), length-append done [], st.marked_each) in absurd bad
-all_stands moves marks closed front (step ∷ more) done (false ∷ left) split marked numbers kept st =
-    all_stands moves marks closed (front ++ step ∷ []) more (done ++ false ∷ []) left (split ∙ sym (append_assoc front (step ∷ []) more)) (marked ∙ sym (append_assoc done (false ∷ []) left))
-    (numbers ++ 0 ∷ []) kept (standing_left numbers done front kept step st)
-all_stands moves marks closed front (step ∷ more) done (true ∷ left) split marked numbers kept st =
-    all_stands moves marks closed (front ++ step ∷ []) more (done ++ true ∷ []) left (split ∙ sym (append_assoc front (step ∷ []) more)) (marked ∙ sym (append_assoc done (true ∷ []) left))
-    (numbers ++ (length kept + 1) ∷ []) (kept ++ renumbered (new_number numbers) step ∷ []) (standing_kept numbers done front kept step (length kept + 1) refl st)
+    (numbers, moved numbers done marks prefix moves kept done_is prefix_is st)
+all_stands moves marks closed prefix [] done (mark ∷ left) split marked numbers kept st =
+    let bad : ⊥ = omega (arith, closed.each, ap length split, ap length marked, length-append prefix [], length-append done (mark ∷ left), st.marked_each) in absurd bad
+all_stands moves marks closed prefix (step ∷ more) done [] split marked numbers kept st =
+    let bad : ⊥ = omega (arith, closed.each, ap length split, ap length marked, length-append prefix (step ∷ more), length-append done [], st.marked_each) in absurd bad
+all_stands moves marks closed prefix (step ∷ more) done (false ∷ left) split marked numbers kept st =
+    all_stands moves marks closed (prefix ++ step ∷ []) more (done ++ false ∷ []) left (split ∙ sym (append_assoc prefix (step ∷ []) more)) (marked ∙ sym (append_assoc done (false ∷ []) left))
+    (numbers ++ 0 ∷ []) kept (standing_left numbers done prefix kept step st)
+all_stands moves marks closed prefix (step ∷ more) done (true ∷ left) split marked numbers kept st =
+    all_stands moves marks closed (prefix ++ step ∷ []) more (done ++ true ∷ []) left (split ∙ sym (append_assoc prefix (step ∷ []) more)) (marked ∙ sym (append_assoc done (true ∷ []) left))
+    (numbers ++ (length kept + 1) ∷ []) (kept ++ renumber (new_number numbers) step ∷ []) (standing_kept numbers done prefix kept step (length kept + 1) refl st)
 
 pub kept_stands : (moves : List Move) (marks : List Bool) → AreClosed moves marks → (last : List ℕ) × Standing last marks moves (kept_moves [] [] moves marks)
 kept_stands moves marks closed = all_stands moves marks closed [] moves [] marks refl refl [] [] standing_none

@@ -11,8 +11,8 @@ use Rattle.dy_term.specs.Terms.{Term}
 use Rattle.dy_flat.specs.Parts as parts
 use Rattle.dy_flat.specs.Openings.{penc_message, aead_message, signed_message}
 use Rattle.dy_recipe.specs.Moves.{Move, Message, Cert, Forge, State, Lit, Name, Pair, Pk, Vk, Penc, Aead, Sign, Mac, Kdf, Hash, Fst, Snd, Pdec, Adec, Ad, Body, Leaves}
-use Rattle.dy_recipe.specs.Values.{numbered, of_two, of_three, made_by, if_small, move_value, move_values, last_of, recipe_value}
-use Rattle.dy_recipe.specs.Trimming.{numbers_of, KeepsValue, new_number, renumbered}
+use Rattle.dy_recipe.specs.Values.{value_at, of_two, of_three, made_by, if_small, move_value, move_values, last_of, recipe_value}
+use Rattle.dy_recipe.specs.Trimming.{numbers_of, KeepsValue, new_number, renumber}
 use Rattle.dy_recipe.specs.MirrorTrimming.{IsMarked, AreClosed, kept_moves}
 use Rattle.dy_recipe.proofs.LastValues.{last_after}
 
@@ -25,9 +25,9 @@ three_same : (make : Term → Term → Term → Option Term) (x y z a b c : Opti
 three_same make x y z a b c e f g = ap (λ v. of_three make v y z) e ∙ ap (λ v. of_three make a v z) f ∙ ap (of_three make a b) g
 
 abbrev SameNumbered : (ℕ → ℕ) → List Term → List Term → Move → Type 0
-SameNumbered new old now move = (k number : ℕ) → slice_get (numbers_of move) k ≡ Some number → numbered old number ≡ numbered now (new number)
+SameNumbered new old now move = (k number : ℕ) → slice_get (numbers_of move) k ≡ Some number → value_at old number ≡ value_at now (new number)
 
-same_made : (leaves : Leaves) (new : ℕ → ℕ) (old now : List Term) (move : Move) → SameNumbered new old now move → made_by leaves old move ≡ made_by leaves now (renumbered new move)
+same_made : (leaves : Leaves) (new : ℕ → ℕ) (old now : List Term) (move : Move) → SameNumbered new old now move → made_by leaves old move ≡ made_by leaves now (renumber new move)
 same_made leaves new old now (Message index) h = refl
 same_made leaves new old now (Cert index) h = refl
 same_made leaves new old now (Forge index) h = refl
@@ -50,7 +50,7 @@ same_made leaves new old now (Adec a b) h = two_same aead_message _ _ _ _ (h 0 a
 same_made leaves new old now (Ad a) h = ap (option_and_then parts.data_part) (h 0 a refl)
 same_made leaves new old now (Body a) h = ap (option_and_then signed_message) (h 0 a refl)
 
-same_value : (leaves : Leaves) (new : ℕ → ℕ) (old now : List Term) (move : Move) → SameNumbered new old now move → move_value leaves old move ≡ move_value leaves now (renumbered new move)
+same_value : (leaves : Leaves) (new : ℕ → ℕ) (old now : List Term) (move : Move) → SameNumbered new old now move → move_value leaves old move ≡ move_value leaves now (renumber new move)
 same_value leaves new old now move same = ap (option_and_then if_small) (same_made leaves new old now move same)
 
 -- ---- places
@@ -65,10 +65,10 @@ place_cases (suc i) (suc n) =
       | inr rest ↦ elim rest [ inl same ↦ inr (inl (ap suc same)) | inr more ↦ inr (inr (omega (arith, more))) ]
     ]
 
-pub front_at : {A : Type 0} (values : List A) (value : A) (i : ℕ) → i < length values → slice_get (values ++ value ∷ []) i ≡ slice_get values i
-front_at [] value i less = absurd (omega (arith, less))
-front_at (x ∷ values) value zero less = refl
-front_at (x ∷ values) value (suc i) less = front_at values value i (omega (arith, less))
+pub prefix_at : {A : Type 0} (values : List A) (value : A) (i : ℕ) → i < length values → slice_get (values ++ value ∷ []) i ≡ slice_get values i
+prefix_at [] value i less = absurd (omega (arith, less))
+prefix_at (x ∷ values) value zero less = refl
+prefix_at (x ∷ values) value (suc i) less = prefix_at values value i (omega (arith, less))
 
 pub end_at : {A : Type 0} (values : List A) (value : A) (i : ℕ) → i ≡ length values → slice_get (values ++ value ∷ []) i ≡ Some value
 end_at [] value i is = ap (slice_get (value ∷ [])) is
@@ -81,10 +81,10 @@ past_at [] (suc i) over = refl
 past_at (x ∷ values) zero over = absurd (omega (arith, over))
 past_at (x ∷ values) (suc i) over = past_at values i (omega (arith, over))
 
-pub move_at : (front : List Move) (move : Move) (more : List Move) (i : ℕ) → i ≡ length front → slice_get (front ++ move ∷ more) i ≡ Some move
+pub move_at : (prefix : List Move) (move : Move) (more : List Move) (i : ℕ) → i ≡ length prefix → slice_get (prefix ++ move ∷ more) i ≡ Some move
 move_at [] move more i is = ap (slice_get (move ∷ more)) is
-move_at (x ∷ front) move more zero is = absurd (omega (arith, is))
-move_at (x ∷ front) move more (suc i) is = move_at front move more i (omega (arith, is))
+move_at (x ∷ prefix) move more zero is = absurd (omega (arith, is))
+move_at (x ∷ prefix) move more (suc i) is = move_at prefix move more i (omega (arith, is))
 
 -- ---- what was kept so far
 
@@ -150,7 +150,7 @@ tie_left numbers marks old now value tie = record {
   same = λ i some. elim (number_at numbers 0 i some) [
     | inl before ↦
         let is = before.1 in
-        front_at old value i (omega (arith, before.0, tie.each)) ∙ tie.same i (omega (arith, is, some)) ∙ ap (λ n. slice_get now (n - 1)) (sym is)
+        prefix_at old value i (omega (arith, before.0, tie.each)) ∙ tie.same i (omega (arith, is, some)) ∙ ap (λ n. slice_get now (n - 1)) (sym is)
     | inr here ↦ let is = here.1 in absurd (omega (arith, is, some))
   ];
   kept = λ i marked. elim (mark_at marks false i marked) [
@@ -173,8 +173,8 @@ tie_kept numbers marks old now value n at_end tie = record {
     | inl before ↦
         let is = before.1 in
         let few = tie.few i in
-        front_at old value i (omega (arith, before.0, tie.each)) ∙ tie.same i (omega (arith, is, some))
-        ∙ sym (front_at now value (get_or numbers i 0 - 1) (omega (arith, is, some, few))) ∙ ap (λ m. slice_get (now ++ value ∷ []) (m - 1)) (sym is)
+        prefix_at old value i (omega (arith, before.0, tie.each)) ∙ tie.same i (omega (arith, is, some))
+        ∙ sym (prefix_at now value (get_or numbers i 0 - 1) (omega (arith, is, some, few))) ∙ ap (λ m. slice_get (now ++ value ∷ []) (m - 1)) (sym is)
     | inr here ↦
         let is = here.1 in
         let at = here.0 in
@@ -202,14 +202,14 @@ added leaves earlier (x ∷ moves) values move value all one =
       | Some y ↦ λ rest. added leaves (earlier ++ y ∷ []) moves values move value rest one
     ] all
 
-numbered-suc : (values : List Term) (place : ℕ) → numbered values (suc place) ≡ slice_get values place
-numbered-suc values place =
+value_at-suc : (values : List Term) (place : ℕ) → value_at values (suc place) ≡ slice_get values place
+value_at-suc values place =
     let less : suc place - 1 ≡ place = omega arith in
     ap (λ (test : Bool). if test then None else slice_get values (suc place - 1)) (eqb-suc-zero place) ∙ ap (slice_get values) less
 
-named_some : (values : List Term) (n : ℕ) → 0 < n → slice_get values (n - 1) ≡ numbered values n
+named_some : (values : List Term) (n : ℕ) → 0 < n → slice_get values (n - 1) ≡ value_at values n
 named_some values zero some = absurd (omega (arith, some))
-named_some values (suc n) some = let less : suc n - 1 ≡ n = omega arith in ap (slice_get values) less ∙ sym (numbered-suc values n)
+named_some values (suc n) some = let less : suc n - 1 ≡ n = omega arith in ap (slice_get values) less ∙ sym (value_at-suc values n)
 
 -- What a marked move names has the same value under its new number.
 numbers_same : (numbers : List ℕ) (marks : List Bool) (old now : List Term) (move : Move) → Tie numbers marks old now
@@ -221,11 +221,11 @@ numbers_same numbers marks old now move tie closed k (suc place) at =
           let before : suc place - 1 ≡ place = omega arith in
           let marked : IsMarked marks place = ap (λ p. get_or marks p false) (sym before) ∙ closed k (suc place) at (omega arith) (omega (arith, less)) in
           let some : 0 < get_or numbers place 0 = tie.kept place marked in
-          numbered-suc old place ∙ tie.same place some ∙ named_some now (get_or numbers place 0) some
+          value_at-suc old place ∙ tie.same place some ∙ named_some now (get_or numbers place 0) some
       | inr rest ↦
           let over : length old ≤ place = elim rest [ inl is ↦ omega (arith, is) | inr more ↦ omega (arith, more) ] in
           let none : get_or numbers place 0 ≡ 0 = get_or_past numbers place 0 (omega (arith, over, tie.each)) in
-          numbered-suc old place ∙ past_at old place over ∙ sym (ap (numbered now) none)
+          value_at-suc old place ∙ past_at old place over ∙ sym (ap (value_at now) none)
     ]
 
 -- ---- all moves
@@ -233,13 +233,13 @@ numbers_same numbers marks old now move tie closed k (suc place) at =
 abbrev Kept : Leaves → List Term → List Move → Type 0
 Kept leaves values moves = (found : List Term) × (move_values leaves [] moves ≡ Some found) × ((value : Term) → last_of values ≡ Some value → last_of found ≡ Some value)
 
-pub mark_here : (front : List Bool) (mark : Bool) (more : List Bool) (i : ℕ) → i ≡ length front → get_or (front ++ mark ∷ more) i false ≡ mark
-mark_here front mark more i is = ap (λ k. get_or (front ++ mark ∷ more) k false) is ∙ get_or-append_seam front mark more false
+pub mark_here : (prefix : List Bool) (mark : Bool) (more : List Bool) (i : ℕ) → i ≡ length prefix → get_or (prefix ++ mark ∷ more) i false ≡ mark
+mark_here prefix mark more i is = ap (λ k. get_or (prefix ++ mark ∷ more) k false) is ∙ get_or-append_seam prefix mark more false
 
-keep : (leaves : Leaves) (all : List Move) (marks : List Bool) → AreClosed all marks → (front more : List Move) (done left : List Bool) → all ≡ front ++ more → marks ≡ done ++ left
-    → (numbers : List ℕ) (kept : List Move) (old now : List Term) → length front ≡ length old → length kept ≡ length now → Tie numbers done old now → move_values leaves [] kept ≡ Some now
+keep : (leaves : Leaves) (all : List Move) (marks : List Bool) → AreClosed all marks → (prefix more : List Move) (done left : List Bool) → all ≡ prefix ++ more → marks ≡ done ++ left
+    → (numbers : List ℕ) (kept : List Move) (old now : List Term) → length prefix ≡ length old → length kept ≡ length now → Tie numbers done old now → move_values leaves [] kept ≡ Some now
     → (values : List Term) → move_values leaves old more ≡ Some values → Kept leaves values (kept_moves numbers kept more left)
-keep leaves all marks closed front [] done left split marked numbers kept old now len_front len_kept tie given values is =
+keep leaves all marks closed prefix [] done left split marked numbers kept old now len_prefix len_kept tie given values is =
     let same : old ≡ values = cc in (
       now,
       given,
@@ -247,7 +247,7 @@ keep leaves all marks closed front [] done left split marked numbers kept old no
           elim old as (λ o. old ≡ o → last_of now ≡ Some value) [
             | [] ↦ λ none. let lost : last_of [] ≡ Some value = sym (ap last_of (sym same ∙ none)) ∙ last in let bad : ⊥ = cc in absurd bad
             | x ∷ xs ↦ λ some.
-                let count : length all ≡ length old = ap length (split ∙ append-nil front) ∙ len_front in
+                let count : length all ≡ length old = ap length (split ∙ append-nil prefix) ∙ len_prefix in
                 let long : 0 < length old = omega (arith, ap length some) in
                 let place = length old - 1 in
                 let at : IsMarked marks (length all - 1) = closed.last (omega (arith, count, long)) in
@@ -256,32 +256,32 @@ keep leaves all marks closed front [] done left split marked numbers kept old no
                 sym (tie.last place here (omega (arith, long))) ∙ ap last_of same ∙ last
           ] refl,
     )
-keep leaves all marks closed front (move ∷ more) done [] split marked numbers kept old now len_front len_kept tie given values is =
-    let bad : ⊥ = omega (arith, closed.each, ap length split, ap length marked, length-append front (move ∷ more), length-append done [], len_front, tie.marked_each) in absurd bad
-keep leaves all marks closed front (move ∷ more) done (mark ∷ left) split marked numbers kept old now len_front len_kept tie given values is =
+keep leaves all marks closed prefix (move ∷ more) done [] split marked numbers kept old now len_prefix len_kept tie given values is =
+    let bad : ⊥ = omega (arith, closed.each, ap length split, ap length marked, length-append prefix (move ∷ more), length-append done [], len_prefix, tie.marked_each) in absurd bad
+keep leaves all marks closed prefix (move ∷ more) done (mark ∷ left) split marked numbers kept old now len_prefix len_kept tie given values is =
     elim (move_value leaves old move) as (λ v. move_value leaves old move ≡ v → option_and_then (λ value. move_values leaves (old ++ value ∷ []) more) v ≡ Some values → Kept leaves values (kept_moves numbers kept (move ∷ more) (mark ∷ left))) [
       | None ↦ λ none rest. let bad : ⊥ = (cc) in absurd bad
       | Some value ↦ λ made rest.
-          let split_on : all ≡ (front ++ move ∷ []) ++ more = split ∙ sym (append_assoc front (move ∷ []) more) in
+          let split_on : all ≡ (prefix ++ move ∷ []) ++ more = split ∙ sym (append_assoc prefix (move ∷ []) more) in
           let marked_on : marks ≡ (done ++ mark ∷ []) ++ left = marked ∙ sym (append_assoc done (mark ∷ []) left) in
-          let front_on : length (front ++ move ∷ []) ≡ length (old ++ value ∷ []) = omega (arith, length-append front (move ∷ []), length-append old (value ∷ []), len_front) in
+          let prefix_on : length (prefix ++ move ∷ []) ≡ length (old ++ value ∷ []) = omega (arith, length-append prefix (move ∷ []), length-append old (value ∷ []), len_prefix) in
           elim mark as (λ m. mark ≡ m → Kept leaves values (kept_moves numbers kept (move ∷ more) (m ∷ left))) [
             | false ↦ λ unmarked.
-                keep leaves all marks closed (front ++ move ∷ []) more (done ++ false ∷ []) left split_on (marked_on ∙ ap (λ m. (done ++ m ∷ []) ++ left) unmarked)
-                (numbers ++ 0 ∷ []) kept (old ++ value ∷ []) now front_on len_kept (tie_left numbers done old now value tie) given values rest
+                keep leaves all marks closed (prefix ++ move ∷ []) more (done ++ false ∷ []) left split_on (marked_on ∙ ap (λ m. (done ++ m ∷ []) ++ left) unmarked)
+                (numbers ++ 0 ∷ []) kept (old ++ value ∷ []) now prefix_on len_kept (tie_left numbers done old now value tie) given values rest
             | true ↦ λ is_marked.
                 let n = length kept + 1 in
                 let place = length old in
                 let here : IsMarked marks place = ap (λ m. get_or m place false) marked ∙ mark_here done mark left place (sym tie.marked_each) ∙ is_marked in
-                let stands : slice_get all place ≡ Some move = ap (λ m. slice_get m place) split ∙ move_at front move more place (sym len_front) in
+                let stands : slice_get all place ≡ Some move = ap (λ m. slice_get m place) split ∙ move_at prefix move more place (sym len_prefix) in
                 let names = λ (k number : ℕ) (at : slice_get (numbers_of move) k ≡ Some number) (some : 0 < number) (few : number ≤ length old).
                 let there : IsMarked marks (number - 1) = closed.named place move k number (omega arith) stands here at some few in
                 sym (get_or-append done (mark ∷ left) false (number - 1) (omega (arith, some, few, tie.marked_each))) ∙ sym (ap (λ m. get_or m (number - 1) false) marked) ∙ there in
                 let same = numbers_same numbers done old now move tie names in
-                let new = renumbered (new_number numbers) move in
+                let new = renumber (new_number numbers) move in
                 let again : move_value leaves now new ≡ Some value = sym (same_value leaves (new_number numbers) old now move same) ∙ made in
-                keep leaves all marks closed (front ++ move ∷ []) more (done ++ true ∷ []) left split_on (marked_on ∙ ap (λ m. (done ++ m ∷ []) ++ left) is_marked)
-                (numbers ++ n ∷ []) (kept ++ new ∷ []) (old ++ value ∷ []) (now ++ value ∷ []) front_on (omega (arith, length-append kept (new ∷ []), length-append now (value ∷ []), len_kept))
+                keep leaves all marks closed (prefix ++ move ∷ []) more (done ++ true ∷ []) left split_on (marked_on ∙ ap (λ m. (done ++ m ∷ []) ++ left) is_marked)
+                (numbers ++ n ∷ []) (kept ++ new ∷ []) (old ++ value ∷ []) (now ++ value ∷ []) prefix_on (omega (arith, length-append kept (new ∷ []), length-append now (value ∷ []), len_kept))
                 (tie_kept numbers done old now value n (omega (arith, len_kept)) tie) (added leaves [] kept now new value given again) values rest
           ] refl
     ] refl is

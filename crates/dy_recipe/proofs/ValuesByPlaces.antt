@@ -66,6 +66,6 @@ places leaves moves value is =
           record { values = all.0; each = all.2.each; over = all.2.over; last = ap last_of (sym all.1) ∙ last }
     ] refl is
 
-pub value_at : (leaves : Leaves) (moves : List Move) (value : Term) → HasValue leaves moves value → recipe_value leaves moves ≡ Some value
-value_at leaves moves value has =
+pub value_found : (leaves : Leaves) (moves : List Move) (value : Term) → HasValue leaves moves value → recipe_value leaves moves ≡ Some value
+value_found leaves moves value has =
     ap (option_and_then last_of) (followed leaves [] moves has.values (record { each = has.each; over = has.over })) ∙ has.last

@@ -3,7 +3,7 @@
 use Rattle.std.specs.Prelude.{◌≡◌, ℕ, ◌+◌, ◌-◌, ◌<◌, ◌≤◌, ◌⊎◌, Bool, true, false, Some}
 use Rattle.std.specs.Prelude.{List, [], ◌∷◌, ◌++◌, length, slice_get, slice_index_or}
 use Rattle.dy_recipe.specs.Moves.{Move}
-use Rattle.dy_recipe.specs.Trimming.{numbers_of, new_number, renumbered}
+use Rattle.dy_recipe.specs.Trimming.{numbers_of, new_number, renumber}
 
 abbrev pub IsMarked : List Bool → ℕ → Type 0
 IsMarked marks place = slice_index_or marks place false ≡ true
@@ -44,5 +44,5 @@ abbrev pub kept_moves : List ℕ → List Move → List Move → List Bool → L
 kept_moves numbers kept [] marks = kept
 kept_moves numbers kept (move ∷ more) [] = kept
 kept_moves numbers kept (move ∷ more) (true ∷ marks) =
-    kept_moves (numbers ++ (length kept + 1) ∷ []) (kept ++ renumbered (new_number numbers) move ∷ []) more marks
+    kept_moves (numbers ++ (length kept + 1) ∷ []) (kept ++ renumber (new_number numbers) move ∷ []) more marks
 kept_moves numbers kept (move ∷ more) (false ∷ marks) = kept_moves (numbers ++ 0 ∷ []) kept more marks

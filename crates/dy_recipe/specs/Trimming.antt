@@ -60,28 +60,28 @@ new_number numbers zero = 0
 new_number numbers (suc place) = slice_index numbers place
 
 -- a move with other numbers
-abbrev pub renumbered : (ℕ → ℕ) → Move → Move
-renumbered new (Message index) = Message index
-renumbered new (Cert index) = Cert index
-renumbered new (Forge index) = Forge index
-renumbered new (State index field) = State index field
-renumbered new (Lit text) = Lit text
-renumbered new (Name principal) = Name principal
-renumbered new (Pair a b) = Pair (new a) (new b)
-renumbered new (Pk a) = Pk (new a)
-renumbered new (Vk a) = Vk (new a)
-renumbered new (Penc a b) = Penc (new a) (new b)
-renumbered new (Aead a b c) = Aead (new a) (new b) (new c)
-renumbered new (Sign a b) = Sign (new a) (new b)
-renumbered new (Mac a b) = Mac (new a) (new b)
-renumbered new (Kdf a context b) = Kdf (new a) context (new b)
-renumbered new (Hash a) = Hash (new a)
-renumbered new (Fst a) = Fst (new a)
-renumbered new (Snd a) = Snd (new a)
-renumbered new (Pdec a b) = Pdec (new a) (new b)
-renumbered new (Adec a b) = Adec (new a) (new b)
-renumbered new (Ad a) = Ad (new a)
-renumbered new (Body a) = Body (new a)
+abbrev pub renumber : (ℕ → ℕ) → Move → Move
+renumber new (Message index) = Message index
+renumber new (Cert index) = Cert index
+renumber new (Forge index) = Forge index
+renumber new (State index field) = State index field
+renumber new (Lit text) = Lit text
+renumber new (Name principal) = Name principal
+renumber new (Pair a b) = Pair (new a) (new b)
+renumber new (Pk a) = Pk (new a)
+renumber new (Vk a) = Vk (new a)
+renumber new (Penc a b) = Penc (new a) (new b)
+renumber new (Aead a b c) = Aead (new a) (new b) (new c)
+renumber new (Sign a b) = Sign (new a) (new b)
+renumber new (Mac a b) = Mac (new a) (new b)
+renumber new (Kdf a context b) = Kdf (new a) context (new b)
+renumber new (Hash a) = Hash (new a)
+renumber new (Fst a) = Fst (new a)
+renumber new (Snd a) = Snd (new a)
+renumber new (Pdec a b) = Pdec (new a) (new b)
+renumber new (Adec a b) = Adec (new a) (new b)
+renumber new (Ad a) = Ad (new a)
+renumber new (Body a) = Body (new a)
 
 -- One recipe has the kept moves of the other, in the same order and no others. Each names what it named, by the new
 -- numbers; a number that was of no earlier move is 0. Of each move of the other `numbers` has the new number, counted
@@ -97,4 +97,4 @@ pub record IsTrimmed (whole trimmed : List Move) : Type 0 where
       → (place : ℕ) × (IsKept whole place × (slice_index numbers place ≡ number))
   pub moves : (place : ℕ) (move : Move) → IsKept whole place → slice_get whole place ≡ Some move
       → slice_get trimmed (slice_index numbers place - 1)
-      ≡ Some (renumbered (new_number (take place numbers)) move)
+      ≡ Some (renumber (new_number (take place numbers)) move)

@@ -10,8 +10,8 @@ use Rattle.dy_term.specs.declared.limits.TheConstants.{MAX_NODES}
 use Rattle.dy_flat.specs.Openings.{penc_message, aead_message, signed_message}
 
 -- the value that a number names among those of the earlier moves, counted from 1
-abbrev pub numbered : List Term → ℕ → Option Term
-numbered values number = if number == 0 then None else slice_get values (number - 1)
+abbrev pub value_at : List Term → ℕ → Option Term
+value_at values number = if number == 0 then None else slice_get values (number - 1)
 
 -- what an operation makes of values, where each of them is there
 abbrev pub of_two : (Term → Term → Option Term) → Option Term → Option Term → Option Term
@@ -31,23 +31,23 @@ made_by leaves values (Forge index) = if leaves.is_forge index then Some (trees.
 made_by leaves values (State index field) = leaves.value (FieldAt index field)
 made_by leaves values (Lit text) = Some (trees.Lit text)
 made_by leaves values (Name principal) = Some (trees.Name principal)
-made_by leaves values (Pair a b) = of_two (λ x y. Some (trees.Pair x y)) (numbered values a) (numbered values b)
-made_by leaves values (Pk a) = option_map trees.Pk (numbered values a)
-made_by leaves values (Vk a) = option_map trees.Vk (numbered values a)
-made_by leaves values (Penc a b) = of_two (λ x y. Some (trees.Penc x y)) (numbered values a) (numbered values b)
+made_by leaves values (Pair a b) = of_two (λ x y. Some (trees.Pair x y)) (value_at values a) (value_at values b)
+made_by leaves values (Pk a) = option_map trees.Pk (value_at values a)
+made_by leaves values (Vk a) = option_map trees.Vk (value_at values a)
+made_by leaves values (Penc a b) = of_two (λ x y. Some (trees.Penc x y)) (value_at values a) (value_at values b)
 made_by leaves values (Aead a b c) =
-    of_three (λ x y z. Some (trees.Aead x y z)) (numbered values a) (numbered values b) (numbered values c)
-made_by leaves values (Sign a b) = of_two (λ x y. Some (trees.Sign x y)) (numbered values a) (numbered values b)
-made_by leaves values (Mac a b) = of_two (λ x y. Some (trees.Mac x y)) (numbered values a) (numbered values b)
+    of_three (λ x y z. Some (trees.Aead x y z)) (value_at values a) (value_at values b) (value_at values c)
+made_by leaves values (Sign a b) = of_two (λ x y. Some (trees.Sign x y)) (value_at values a) (value_at values b)
+made_by leaves values (Mac a b) = of_two (λ x y. Some (trees.Mac x y)) (value_at values a) (value_at values b)
 made_by leaves values (Kdf a context b) =
-    of_two (λ x y. Some (trees.Kdf x context y)) (numbered values a) (numbered values b)
-made_by leaves values (Hash a) = option_map trees.Hash (numbered values a)
-made_by leaves values (Fst a) = option_and_then parts.first (numbered values a)
-made_by leaves values (Snd a) = option_and_then parts.second (numbered values a)
-made_by leaves values (Pdec a key) = of_two penc_message (numbered values a) (numbered values key)
-made_by leaves values (Adec a key) = of_two aead_message (numbered values a) (numbered values key)
-made_by leaves values (Ad a) = option_and_then parts.data_part (numbered values a)
-made_by leaves values (Body a) = option_and_then signed_message (numbered values a)
+    of_two (λ x y. Some (trees.Kdf x context y)) (value_at values a) (value_at values b)
+made_by leaves values (Hash a) = option_map trees.Hash (value_at values a)
+made_by leaves values (Fst a) = option_and_then parts.first (value_at values a)
+made_by leaves values (Snd a) = option_and_then parts.second (value_at values a)
+made_by leaves values (Pdec a key) = of_two penc_message (value_at values a) (value_at values key)
+made_by leaves values (Adec a key) = of_two aead_message (value_at values a) (value_at values key)
+made_by leaves values (Ad a) = option_and_then parts.data_part (value_at values a)
+made_by leaves values (Body a) = option_and_then signed_message (value_at values a)
 
 -- a term of at most 1,024 nodes
 abbrev pub if_small : Term → Option Term

@@ -4,15 +4,15 @@ ghost use Rattle.std.specs.Option.{option_copied};
 ghost use Rattle.dy_flat.specs.Views.{tree_of};
 ghost use Rattle.dy_flat.specs.PartMeaning.{part_of};
 ghost use Rattle.dy_recipe.specs.Moves.{Forge};
-ghost use Rattle.dy_recipe.specs.Values.{numbered, made_by};
+ghost use Rattle.dy_recipe.specs.Values.{value_at, made_by};
 ghost use Rattle.dy_recipe.specs.Meaning.{move_of};
 ghost use Rattle.dy_recipe.specs.LentMeaning.{term_of_lent};
 
 use crate::given::Given;
 use crate::moves::Move;
 use dy_flat::{
-    FlatTerm, View, aead, aead_message, copied, data_part, first, hash, kdf, lit, mac, name, nodes,
-    nonce, pair, penc, penc_message, pk, second, sign, signed_message, vk,
+    FlatTerm, View, aead, aead_message, copy_of, data_part, first, hash, kdf, lit, mac, name,
+    nodes, nonce, pair, penc, penc_message, pk, second, sign, signed_message, vk,
 };
 use dy_term::limits::MAX_NODES;
 use dy_term::{Memory, Text, Word};
@@ -38,8 +38,8 @@ pub(crate) enum Lent<'a> {
 }
 
 /// The value that a number names, counted from 1.
-fn numbered(values: &[FlatTerm], number: u32) -> Option<View<'_>>
-    ensures { part_of result ≡ numbered values.now number }
+fn value_at(values: &[FlatTerm], number: u32) -> Option<View<'_>>
+    ensures { part_of result ≡ value_at values.now number }
 {
     if number == 0 {
         return None;
@@ -51,7 +51,7 @@ fn numbered(values: &[FlatTerm], number: u32) -> Option<View<'_>>
 }
 
 /// The nonce that an entry forged.
-fn forged<'a, G: Given>(index: u32, given: &G) -> Option<Lent<'a>>
+fn forged_nonce<'a, G: Given>(index: u32, given: &G) -> Option<Lent<'a>>
     ensures { option_map term_of_lent result ≡ made_by (G.leaves given.now) [] (Forge index) }
 {
     if given.is_forge(index) {
@@ -81,32 +81,32 @@ pub(crate) fn lent_by<'a, G: Given>(
         Move::Message(_) | Move::Cert(_) | Move::State(_, _) => {
             Some(Lent::Whole(given.value(step)?))
         }
-        Move::Forge(index) => forged(*index, given),
+        Move::Forge(index) => forged_nonce(*index, given),
         Move::Lit(text) => Some(Lent::Lit(text)),
         Move::Name(principal) => Some(Lent::Name(principal)),
-        Move::Pair(a, b) => Some(Lent::Pair(numbered(values, *a)?, numbered(values, *b)?)),
-        Move::Pk(a) => Some(Lent::Pk(numbered(values, *a)?)),
-        Move::Vk(a) => Some(Lent::Vk(numbered(values, *a)?)),
-        Move::Penc(a, b) => Some(Lent::Penc(numbered(values, *a)?, numbered(values, *b)?)),
+        Move::Pair(a, b) => Some(Lent::Pair(value_at(values, *a)?, value_at(values, *b)?)),
+        Move::Pk(a) => Some(Lent::Pk(value_at(values, *a)?)),
+        Move::Vk(a) => Some(Lent::Vk(value_at(values, *a)?)),
+        Move::Penc(a, b) => Some(Lent::Penc(value_at(values, *a)?, value_at(values, *b)?)),
         Move::Aead(a, b, c) => Some(Lent::Aead(
-            numbered(values, *a)?,
-            numbered(values, *b)?,
-            numbered(values, *c)?,
+            value_at(values, *a)?,
+            value_at(values, *b)?,
+            value_at(values, *c)?,
         )),
-        Move::Sign(a, b) => Some(Lent::Sign(numbered(values, *a)?, numbered(values, *b)?)),
-        Move::Mac(a, b) => Some(Lent::Mac(numbered(values, *a)?, numbered(values, *b)?)),
+        Move::Sign(a, b) => Some(Lent::Sign(value_at(values, *a)?, value_at(values, *b)?)),
+        Move::Mac(a, b) => Some(Lent::Mac(value_at(values, *a)?, value_at(values, *b)?)),
         Move::Kdf(a, context, b) => Some(Lent::Kdf(
-            numbered(values, *a)?,
+            value_at(values, *a)?,
             context,
-            numbered(values, *b)?,
+            value_at(values, *b)?,
         )),
-        Move::Hash(a) => Some(Lent::Hash(numbered(values, *a)?)),
-        Move::Fst(a) => as_part(first(numbered(values, *a)?)),
-        Move::Snd(a) => as_part(second(numbered(values, *a)?)),
-        Move::Pdec(a, key) => as_part(penc_message(numbered(values, *a)?, numbered(values, *key)?)),
-        Move::Adec(a, key) => as_part(aead_message(numbered(values, *a)?, numbered(values, *key)?)),
-        Move::Ad(a) => as_part(data_part(numbered(values, *a)?)),
-        Move::Body(a) => as_part(signed_message(numbered(values, *a)?)),
+        Move::Hash(a) => Some(Lent::Hash(value_at(values, *a)?)),
+        Move::Fst(a) => as_part(first(value_at(values, *a)?)),
+        Move::Snd(a) => as_part(second(value_at(values, *a)?)),
+        Move::Pdec(a, key) => as_part(penc_message(value_at(values, *a)?, value_at(values, *key)?)),
+        Move::Adec(a, key) => as_part(aead_message(value_at(values, *a)?, value_at(values, *key)?)),
+        Move::Ad(a) => as_part(data_part(value_at(values, *a)?)),
+        Move::Body(a) => as_part(signed_message(value_at(values, *a)?)),
     }
 }
 
@@ -167,7 +167,7 @@ pub(crate) fn build(alloc: Global, lent: Lent) -> Result<FlatTerm, Memory>
 {
     match lent {
         Lent::Whole(term) => term.copy(alloc),
-        Lent::Part(part) => copied(alloc, part),
+        Lent::Part(part) => copy_of(alloc, part),
         Lent::Lit(text) => lit(alloc, text),
         Lent::Name(principal) => name(alloc, principal),
         Lent::Nonce(index) => nonce(alloc, index),

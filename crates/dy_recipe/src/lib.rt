@@ -12,7 +12,7 @@ pub use applying::apply;
 pub use given::Given;
 pub use laws::value_by_places;
 pub use moves::{Move, Recipe};
-pub use trimming::trimmed;
+pub use trimming::trim;
 
 #[cfg(test)]
 mod tests;

@@ -422,14 +422,14 @@ fn leaves(alloc: Global, recipe: Result<Recipe, Memory>, wanted: &[&str]) -> boo
     let Ok(recipe) = recipe else {
         return false;
     };
-    match trimmed(alloc, &recipe) {
+    match trim(alloc, &recipe) {
         Ok(made) => are_said(alloc, made.moves.as_slice(), wanted),
         Err(_) => false,
     }
 }
 
 fn less(alloc: Global, recipe: Result<Recipe, Memory>) -> Result<Recipe, Memory> {
-    trimmed(alloc, &recipe?)
+    trim(alloc, &recipe?)
 }
 
 fn gives_the_nonce(alloc: Global) -> Result<bool, Memory> {

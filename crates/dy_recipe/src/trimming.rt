@@ -96,8 +96,8 @@ fn new_number(numbers: &[u32], number: u32) -> u32
 }
 
 /// The move with the new numbers.
-fn renumbered(step: &Move, numbers: &[u32]) -> Move
-    ensures { move_of result ≡ trims.renumbered (trims.new_number numbers.now) (move_of step.now) }
+fn renumber(step: &Move, numbers: &[u32]) -> Move
+    ensures { move_of result ≡ trims.renumber (trims.new_number numbers.now) (move_of step.now) }
 {
     match step {
         Move::Message(_)
@@ -156,7 +156,7 @@ fn keep(
         numbers.push(0)?;
         return Ok(());
     }
-    kept.push(renumbered(step, numbers))?;
+    kept.push(renumber(step, numbers))?;
     numbers.push(as_number(kept.len())?)?;
     Ok(())
 }
@@ -177,7 +177,7 @@ fn kept_moves(alloc: Global, moves: &[Move], marks: &[bool]) -> Result<Items<Mov
 /// The recipe without the moves that its last one does not need. The last move is kept, and so is each that a later
 /// kept one names. They stay in order, and get new numbers. Where the recipe has a value, it is also that of what is
 /// kept. The one refusal is out of memory, which it also is where a number takes more than 32 bits.
-pub fn trimmed(alloc: Global, recipe: &Recipe) -> Result<Recipe, Memory>
+pub fn trim(alloc: Global, recipe: &Recipe) -> Result<Recipe, Memory>
     ensures value { IfOk result (λ made. KeepsValue (recipe_of recipe.now) (recipe_of made)) }
     ensures needed { IfOk result (λ made. EachIsNeeded (recipe_of made)) }
     ensures moves { IfOk result (λ made. IsTrimmed (recipe_of recipe.now) (recipe_of made)) }

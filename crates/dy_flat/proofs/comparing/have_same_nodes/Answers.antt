@@ -27,7 +27,7 @@ loop-at-preserved c =
     let within : at < length b.nodes.now = omega arith in
     let here : read a.contents.now (get_or a.nodes.now at (code.Lit 0)) ≡ read b.contents.now (get_or b.nodes.now at (code.Lit 0)) = c.same_node.ensures.same c.if-not-same_node.false in
     map_more (read a.contents.now) a.nodes.now at (code.Lit 0) c.loop-at-test.true
-    ∙ ap (λ front. front ++ read a.contents.now (get_or a.nodes.now at (code.Lit 0)) ∷ []) c.loop-at.invariant
+    ∙ ap (λ prefix. prefix ++ read a.contents.now (get_or a.nodes.now at (code.Lit 0)) ∷ []) c.loop-at.invariant
     ∙ ap (λ last. read_all b.contents.now (take at b.nodes.now) ++ last ∷ []) here
     ∙ sym (map_more (read b.contents.now) b.nodes.now at (code.Lit 0) within)
 

@@ -9,10 +9,10 @@ pub of_run-requires : goal.of_run-requires
 of_run-requires c =
     let nodes = run_of (tree_of c.args.term.now) in
     is_run _ (tree_of c.args.term.now)
-    (c.reverse.ensures ∙ ap reverse (c.in_ok-push_tree.ensures ∙ ap (λ front. front ++ reverse nodes) c.new-run.ensures) ∙ reverse-reverse nodes)
+    (c.reverse.ensures ∙ ap reverse (c.in_ok-push_tree.ensures ∙ ap (λ prefix. prefix ++ reverse nodes) c.new-run.ensures) ∙ reverse-reverse nodes)
 
 pub returns : goal.returns
 returns c =
     let nodes = run_of (tree_of c.args.term.now) in
     c.of_run.ensures ∙ run_term_is _ (tree_of c.args.term.now)
-    (c.reverse.ensures ∙ ap reverse (c.in_ok-push_tree.ensures ∙ ap (λ front. front ++ reverse nodes) c.new-run.ensures) ∙ reverse-reverse nodes)
+    (c.reverse.ensures ∙ ap reverse (c.in_ok-push_tree.ensures ∙ ap (λ prefix. prefix ++ reverse nodes) c.new-run.ensures) ∙ reverse-reverse nodes)

@@ -20,7 +20,7 @@ loop-node-preserved c =
     let before = map Some c.args.self.now in
     let view = c.args.view in
     let at = c.loop-node.node-index in
-    c.in_ok-push_copied.ensures ∙ ap (λ front. front ++ read view.contents.now (get_or view.nodes.now at (code.Lit 0)) ∷ []) c.loop-node.invariant ∙ append_assoc before _ _
+    c.in_ok-push_copied.ensures ∙ ap (λ prefix. prefix ++ read view.contents.now (get_or view.nodes.now at (code.Lit 0)) ∷ []) c.loop-node.invariant ∙ append_assoc before _ _
     ∙ ap (λ back. before ++ back) (sym (map_more (read view.contents.now) view.nodes.now at (code.Lit 0) c.loop-node-test.true))
 
 pub returns : goal.returns

@@ -8,7 +8,7 @@ use Rattle.dy_recipe.specs.MirrorTrimming.{kept_moves}
 use Rattle.dy_recipe.proofs.TrimmedValues.{value_kept}
 use Rattle.dy_recipe.proofs.TrimmedNeeds.{each_is_needed}
 use Rattle.dy_recipe.proofs.TrimmedMoves.{is_trimmed}
-use Rattle.dy_recipe.proofs.trimming.trimmed.Goals as goal
+use Rattle.dy_recipe.proofs.trimming.trim.Goals as goal
 
 pub returns-clause-value : goal.returns-clause-value
 returns-clause-value c = λ leaves value is.
