@@ -1,1 +1,8 @@
 pub mod Lists
+pub mod Rows
+pub mod Noted
+pub mod FirstFaults
+pub mod Bodies
+pub mod Sessions
+pub mod Rounds
+pub mod SameParts

@@ -35,8 +35,7 @@ row_of (first ∷ rest) = Cons first (row_of rest)
 
 -- the line of the first token
 abbrev pub line_of : Expr → ℕ
-line_of (Nm (names.Named id)) = id.line
-line_of (Nm (names.Me line)) = line
+line_of (Nm name) = names.line_of name
 line_of (Lit quote) = quote.line
 line_of (Tuple tag args) = tag.line
 line_of (Pair line first second) = line
@@ -48,12 +47,3 @@ line_of (Sign line key usage tag args) = line
 line_of (Mac line key usage tag args) = line
 line_of (Kdf line key context input) = line
 line_of (Hash line message) = line
-
--- the expressions of its tuple, where it has one
-abbrev pub args_of : Expr → Exprs
-args_of (Tuple tag args) = args
-args_of (Penc line key usage tag args) = args
-args_of (Aead line key usage tag args ad) = args
-args_of (Sign line key usage tag args) = args
-args_of (Mac line key usage tag args) = args
-args_of _ = Nil

@@ -8,3 +8,12 @@ pub mod Recipes
 pub mod Plans
 pub mod Files
 pub mod Meaning
+pub mod LookUps
+pub mod Scopes
+pub mod Parts
+pub mod Places
+pub mod Rules
+pub mod MirrorFaults
+pub mod MirrorMeaning
+pub mod Refusals
+pub mod SameFiles

@@ -1,6 +1,8 @@
 -- What the types of the code stand for.
 use Rattle.std.specs.Prelude.{map}
 use Rattle.std.specs.Option.{option_map}
+use Rattle.std.specs.declared.vec.Vec.{Vec}
+use Rattle.std.specs.declared.alloc.Global.{Global}
 use Rattle.dy_syntax.specs.declared.names.Id as id
 use Rattle.dy_syntax.specs.declared.names.Quote as quote
 use Rattle.dy_syntax.specs.declared.names.Nm as nm
@@ -11,7 +13,9 @@ use Rattle.dy_syntax.specs.declared.names.UseText as use_text
 use Rattle.dy_syntax.specs.declared.names.AtomText as atom_text
 use Rattle.dy_syntax.specs.declared.labels.LabelText as label
 use Rattle.dy_syntax.specs.declared.labels.LabelText.TheVariants as labels
+use Rattle.dy_syntax.specs.declared.expressions.Tuple as tuple
 use Rattle.dy_syntax.specs.declared.expressions.Expr as expr
+use Rattle.dy_syntax.specs.declared.expressions.Expr.TheBlock.{hidden-the_row-Expr-0}
 use Rattle.dy_syntax.specs.declared.expressions.Expr.TheVariants as exprs
 use Rattle.dy_syntax.specs.declared.declarations.FieldType as field_type
 use Rattle.dy_syntax.specs.declared.declarations.FieldType.TheVariants as field_types
@@ -34,6 +38,7 @@ use Rattle.dy_syntax.specs.declared.statements.Statement as statement
 use Rattle.dy_syntax.specs.declared.statements.Handler as handler
 use Rattle.dy_syntax.specs.declared.recipes.Numbered as numbered
 use Rattle.dy_syntax.specs.declared.recipes.RecipeText as recipe
+use Rattle.dy_syntax.specs.declared.recipes.RecipeText.TheBlock.{hidden-the_row-RecipeText-0}
 use Rattle.dy_syntax.specs.declared.recipes.RecipeText.TheVariants as recipes
 use Rattle.dy_syntax.specs.declared.plans.OnStep as on_step
 use Rattle.dy_syntax.specs.declared.plans.Action as action
@@ -94,16 +99,24 @@ abbrev mutual
   expr_of (exprs.Pair' line p first q second) = e.Pair line (expr_of first) (expr_of second)
   expr_of (exprs.Pk line key) = e.Pk line (nm_of key)
   expr_of (exprs.Vk line key) = e.Vk line (nm_of key)
-  expr_of (exprs.Penc' line key usage tag shape args) = e.Penc line (nm_of key) (use_of usage) (quote_of tag) (exprs_of args)
-  expr_of (exprs.Aead' line key usage tag shape args p ad) = e.Aead line (nm_of key) (use_of usage) (quote_of tag) (exprs_of args) (expr_of ad)
-  expr_of (exprs.Sign' line key usage tag shape args) = e.Sign line (nm_of key) (use_of usage) (quote_of tag) (exprs_of args)
-  expr_of (exprs.Mac' line key usage tag shape args) = e.Mac line (nm_of key) (use_of usage) (quote_of tag) (exprs_of args)
+  expr_of (exprs.Penc' line key usage tag shape args) =
+      e.Penc line (nm_of key) (use_of usage) (quote_of tag) (exprs_of args)
+  expr_of (exprs.Aead' line key usage tag shape args p ad) =
+      e.Aead line (nm_of key) (use_of usage) (quote_of tag) (exprs_of args) (expr_of ad)
+  expr_of (exprs.Sign' line key usage tag shape args) =
+      e.Sign line (nm_of key) (use_of usage) (quote_of tag) (exprs_of args)
+  expr_of (exprs.Mac' line key usage tag shape args) =
+      e.Mac line (nm_of key) (use_of usage) (quote_of tag) (exprs_of args)
   expr_of (exprs.Kdf' line key context p input) = e.Kdf line (nm_of key) (quote_of context) (expr_of input)
   expr_of (exprs.Hash' line p message) = e.Hash line (expr_of message)
 
   pub exprs_of : {m : _} → expr.Row_of-Expr m → e.Exprs
   exprs_of expr.end_of-Expr = e.Nil
   exprs_of (expr.more_of-Expr first rest) = e.Cons (expr_of first) (exprs_of rest)
+
+-- the expressions of a tuple
+abbrev pub args_of : tuple.Tuple → e.Exprs
+args_of t = exprs_of (hidden-the_row-Expr-0 t.args)
 
 abbrev pub field_type_of : field_type.FieldType → d.FieldType
 field_type_of field_types.Name = d.Name
@@ -122,10 +135,24 @@ row_of x = record { text = quote_of x.text; kind = kind_of x.kind; kind_line = x
 
 abbrev pub usage_of : usage_decl.UsageDecl → d.UsageDecl
 usage_of x =
-    record { line = x.line; kind = kind_of x.kind; kind_line = x.kind_line; name = id_of x.name; params = map id_of x.params; rows = map row_of x.rows }
+    record {
+      line = x.line;
+      kind = kind_of x.kind;
+      kind_line = x.kind_line;
+      name = id_of x.name;
+      params = map id_of x.params;
+      rows = map row_of x.rows;
+    }
 
 abbrev pub case_of : case_decl.CaseDecl → d.CaseDecl
-case_of x = record { line = x.line; usage = id_of x.usage; tag = quote_of x.tag; fields = map field_of x.fields; requires_ = map atom_of x.requires_ }
+case_of x =
+    record {
+      line = x.line;
+      usage = id_of x.usage;
+      tag = quote_of x.tag;
+      fields = map field_of x.fields;
+      requires_ = map atom_of x.requires_;
+    }
 
 abbrev pub param_of : param.Param → d.Param
 param_of x = record { line = x.line; is_name = x.is_name; name = id_of x.name }
@@ -134,10 +161,18 @@ abbrev pub partner_of : partner.Partner → d.Partner
 partner_of x = record { atom = atom_of x.atom; unless = label_of x.unless }
 
 abbrev pub event_of : event_decl.EventDecl → d.EventDecl
-event_of x = record { line = x.line; name = id_of x.name; params = map param_of x.params; after = map partner_of x.after }
+event_of x =
+    record { line = x.line; name = id_of x.name; params = map param_of x.params; after = map partner_of x.after }
 
 abbrev pub state_of : state_decl.StateDecl → d.StateDecl
-state_of x = record { line = x.line; name = id_of x.name; lasting = x.lasting; fields = map field_of x.fields; knows = map partner_of x.knows }
+state_of x =
+    record {
+      line = x.line;
+      name = id_of x.name;
+      lasting = x.lasting;
+      fields = map field_of x.fields;
+      knows = map partner_of x.knows;
+    }
 
 abbrev pub pattern_of : pattern_.Pattern → s.Pattern
 pattern_of (patterns.Bind name) = s.Bind (id_of name)
@@ -157,10 +192,14 @@ act_of (acts.Certify key usage) = s.Certify (id_of key) (id_of usage)
 act_of (acts.Find usage owner name) = s.Find (id_of usage) (nm_of owner) (id_of name)
 act_of (acts.Recall state pats) = s.Recall (id_of state) (map pattern_of pats)
 act_of (acts.Split value tag pats) = s.Split (id_of value) (quote_of tag) (map pattern_of pats)
-act_of (acts.Opened value key usage tag pats ad) = s.Opened (id_of value) (id_of key) (use_of usage) (quote_of tag) (map pattern_of pats) (expr_of ad)
-act_of (acts.Popened value key usage tag pats) = s.Popened (id_of value) (id_of key) (use_of usage) (quote_of tag) (map pattern_of pats)
-act_of (acts.Verify value key usage tag pats) = s.Verify (id_of value) (id_of key) (use_of usage) (quote_of tag) (map pattern_of pats)
-act_of (acts.Check value key usage tag args) = s.Check (id_of value) (id_of key) (use_of usage) (quote_of tag) (map nm_of args)
+act_of (acts.Opened value key usage tag pats ad) =
+    s.Opened (id_of value) (id_of key) (use_of usage) (quote_of tag) (map pattern_of pats) (expr_of ad)
+act_of (acts.Popened value key usage tag pats) =
+    s.Popened (id_of value) (id_of key) (use_of usage) (quote_of tag) (map pattern_of pats)
+act_of (acts.Verify value key usage tag pats) =
+    s.Verify (id_of value) (id_of key) (use_of usage) (quote_of tag) (map pattern_of pats)
+act_of (acts.Check value key usage tag args) =
+    s.Check (id_of value) (id_of key) (use_of usage) (quote_of tag) (map nm_of args)
 act_of (acts.Same left right) = s.Same (nm_of left) (nm_of right)
 
 abbrev pub statement_of : statement.Statement → s.Statement
@@ -214,6 +253,10 @@ abbrev mutual
   pub recipes_of : {m : _} → recipe.Row_of-RecipeText m → r.Recipes
   recipes_of recipe.end_of-RecipeText = r.Nil
   recipes_of (recipe.more_of-RecipeText first rest) = r.Cons (recipe_of first) (recipes_of rest)
+
+-- the recipes of a tuple
+abbrev pub row_of_recipes : Vec recipe.RecipeText Global → r.Recipes
+row_of_recipes args = recipes_of (hidden-the_row-RecipeText-0 args)
 
 abbrev pub on_step_of : on_step.OnStep → p.OnStep
 on_step_of x = record { line = x.line; step = id_of x.step }

@@ -16,6 +16,10 @@ pub data Nm : Type 0 where
   Named : (id : Id) → Nm
   Me : (line : ℕ) → Nm
 
+abbrev pub line_of : Nm → ℕ
+line_of (Named id) = id.line
+line_of (Me line) = line
+
 -- the kind of a usage
 pub data KindText : Type 0 where
   Nonce Pke Sig Aead Mac Kdf : KindText

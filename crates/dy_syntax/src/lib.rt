@@ -5,9 +5,17 @@ mod declarations;
 mod expressions;
 mod files;
 mod labels;
+mod least;
+mod look_ups;
 mod names;
+mod parts;
+mod places;
 mod plans;
 mod recipes;
+mod refusals;
+mod rules;
+mod sameness;
+mod scopes;
 pub mod small;
 mod statements;
 
@@ -17,7 +25,13 @@ pub use declarations::{
 pub use expressions::{Expr, Tuple, line_of};
 pub use files::File;
 pub use labels::LabelText;
+pub use look_ups::{case_named, event_named, handler_named, state_named, usage_named};
 pub use names::{AtomText, Id, KindText, Nm, Quote, UseText};
 pub use plans::{Action, OnStep, Plan, Round, Step};
 pub use recipes::{Numbered, RecipeText};
+pub use refusals::{FileError, well_formed};
+pub use sameness::files::same_file;
 pub use statements::{Act, Handler, OnPart, Pattern, Statement};
+
+#[cfg(test)]
+mod tests;

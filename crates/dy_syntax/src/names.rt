@@ -1,3 +1,6 @@
+ghost use Rattle.std.specs.Prelude.{◌≡◌};
+ghost use Rattle.dy_syntax.specs.Names as names;
+
 use dy_term::{Text, Word};
 use sqlite_items::Items;
 
@@ -6,6 +9,19 @@ use sqlite_items::Items;
 pub struct Id {
     pub word: Word,
     pub line: u32,
+}
+
+impl Id {
+    ghost use Rattle.dy_syntax.specs.Meaning.{id_of};
+
+    pub fn copy(&self) -> Id
+        ensures { id_of result ≡ id_of self.now }
+    {
+        Id {
+            word: self.word.copy(),
+            line: self.line,
+        }
+    }
 }
 
 /// A text, and its line.
@@ -21,6 +37,20 @@ pub enum Nm {
     Named(Id),
     /// `self`.
     Me { line: u32 },
+}
+
+impl Nm {
+    ghost use Rattle.dy_syntax.specs.Meaning.{nm_of};
+
+    /// The line on which it stands.
+    pub fn line(&self) -> u32
+        ensures { result ≡ names.line_of (nm_of self.now) }
+    {
+        match self {
+            Nm::Named(id) => id.line,
+            Nm::Me { line } => *line,
+        }
+    }
 }
 
 /// The kind of a usage.

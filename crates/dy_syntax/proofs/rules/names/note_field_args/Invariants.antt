@@ -1,0 +1,15 @@
+use Rattle.std.proofs.Common.{◌≡◌, map, drop}
+use Rattle.dy_syntax.specs.Expressions as expressions
+use Rattle.dy_syntax.specs.Meaning.{field_of, nm_of}
+use Rattle.dy_syntax.specs.MirrorMeaning.{least_of, scope_of}
+use Rattle.dy_syntax.specs.MirrorFaults.{note_lines}
+use Rattle.dy_syntax.specs.Rules.Lines.{lines_of_pairs}
+use Rattle.dy_syntax.specs.Rules.Names.{lines_of_expr}
+use Rattle.dy_syntax.proofs.rules.names.note_field_args.Given as goal
+
+-- those so far are noted
+abbrev pub invariant-loop-i : goal.invariant-loop-i
+invariant-loop-i l =
+    let lines = lines_of_pairs (lines_of_expr (scope_of l.scope)) in
+    note_lines 6 (lines (map field_of (drop l.i l.fields)) (map (λ n. expressions.Nm (nm_of n)) (drop l.i l.args))) (least_of l.least)
+    ≡ note_lines 6 (lines (map field_of l.fields) (map (λ n. expressions.Nm (nm_of n)) l.args)) (least_of l.initial.least)
