@@ -1,1 +1,5 @@
 pub mod Small
+pub mod Mirrors
+pub mod Limits
+pub mod Reading
+pub mod Messages

@@ -7,7 +7,6 @@ mod laws;
 mod lists;
 mod parsing;
 mod statements;
-mod words;
 
 pub use errors::ParseError;
 pub use laws::one_file;

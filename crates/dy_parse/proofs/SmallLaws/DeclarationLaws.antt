@@ -11,7 +11,7 @@ use Rattle.dy_syntax.specs.Small.Files.{PartnerText, EventText, HandlerText, Dec
 use Rattle.dy_syntax.specs.Small.Limits.{has_few, partner_fits, event_fits, stmt_fits, handler_fits, declaration_fits}
 use Rattle.dy_parse.specs.declared.small.lists.Between.TheVariants as betweens
 use Rattle.dy_parse.specs.declared.small.lists.Closing.TheVariants as closings
-use Rattle.dy_parse.specs.Small.Words.{is_reserved}
+use Rattle.dy_grammar.specs.Words.{is_reserved}
 use Rattle.dy_parse.specs.Small.Forms.{Next, ◌▸◌, Named, More, Items, Nothing}
 use Rattle.dy_parse.specs.Small.Grammar.{IsMarked, IsParameter, IsPartner, ArePartners, IsStmt, IsDeclaration}
 use Rattle.dy_parse.specs.Small.Reading.{◌>>=◌, first_at, expect, name_at, items_at, more_at, atom_at, stmt_at, marked_at, param_at, partner_at, partners_at, event_at, handler_at, declared_at, decl_at}

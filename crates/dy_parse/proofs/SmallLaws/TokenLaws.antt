@@ -11,7 +11,7 @@ use Rattle.dy_lex.specs.declared.tokens.TokenKind.TheVariants.{Word, Number, Tex
 use Rattle.dy_lex.specs.Tokens.{Piece}
 use Rattle.dy_syntax.specs.Small.Files as files
 use Rattle.dy_syntax.specs.Small.Files.{Name}
-use Rattle.dy_parse.specs.Small.Words.{is_reserved}
+use Rattle.dy_grammar.specs.Words.{is_reserved}
 use Rattle.dy_parse.specs.Small.Forms.{On, Next, is_name, Named, Quoted}
 use Rattle.dy_parse.specs.Small.Grammar.{IsName}
 use Rattle.dy_parse.specs.Small.Reading.{◌>>=◌, same_kind, first_at, expect, name_at, unquoted, text_at, use_at}

@@ -5,7 +5,7 @@ use Rattle.dy_lex.specs.declared.tokens.TokenKind.{TokenKind}
 use Rattle.dy_lex.specs.declared.tokens.TokenKind.TheVariants.{Word, Text, Symbol}
 use Rattle.dy_lex.specs.Tokens.{Piece}
 use Rattle.dy_term.specs.Characters.{is_word, is_text, quoted}
-use Rattle.dy_parse.specs.Small.Words.{is_reserved}
+use Rattle.dy_grammar.specs.Words.{is_reserved}
 
 -- a token with these bytes, on this line
 abbrev pub On : ℕ → TokenKind → List ℕ → List Piece → List Piece → Type 0

@@ -4,7 +4,7 @@ ghost use Rattle.dy_lex.specs.Tokens.{piece_of, pieces_of};
 ghost use Rattle.dy_syntax.specs.Small.Meaning.{name_of};
 ghost use Rattle.dy_parse.specs.Small.Reading as reading;
 
-use crate::small::words::is_reserved;
+use crate::words::is_reserved;
 use dy_lex::{Token, TokenKind};
 use dy_syntax::small::Nm;
 use dy_term::{Text, Word};

@@ -1,0 +1,12 @@
+pub mod Apart
+pub mod Table
+pub mod TreeLaws
+pub mod Sound
+pub mod Complete
+pub mod Stops
+pub mod Stepwise
+pub mod Shortest
+pub mod Faults
+pub mod FileLaws
+pub mod FileFaults
+pub mod Levels

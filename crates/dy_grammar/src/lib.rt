@@ -1,0 +1,6 @@
+//! The grammar of protocol files, as a table of rules: when tokens are a file, and where they stop being one.
+#![tactic(auto)]
+
+mod laws;
+
+pub use laws::{one_fault, one_file};
