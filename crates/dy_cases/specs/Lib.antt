@@ -1,0 +1,4 @@
+pub mod DeclaredParts
+pub mod Derived
+pub mod MirrorTables
+pub mod MirrorCases

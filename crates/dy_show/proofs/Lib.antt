@@ -1,0 +1,10 @@
+pub mod Cutting
+pub mod Fitting
+pub mod ItemRules
+pub mod TokenValues
+pub mod PartRules
+pub mod Retelling
+pub mod RoundTrip
+pub mod Rows
+pub mod WorkedFiles
+pub mod Writing
