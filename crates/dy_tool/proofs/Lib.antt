@@ -1,4 +1,5 @@
 pub mod Words
 pub mod DueCases
 pub mod Owed
+pub mod OneInput
 pub mod OneDue

@@ -28,14 +28,16 @@ pub record BrokeOff (words : List (List ℕ)) (left held held_after : Option (Li
 
 -- What is held afterwards: nothing more where reading failed or memory ran out, a prefix of the text that
 -- is due where writing failed, and else that text.
-abbrev pub Leaves : List (List ℕ) → Option (List ℕ) → Option (List ℕ) → Option (List ℕ) → Status → Type 0
+abbrev pub Leaves : (words : List (List ℕ)) (left held held_after : Option (List ℕ)) → Status → Type 0
 Leaves words left held held_after ReadFault = Keeps held held_after
 Leaves words left held held_after Memory = Keeps held held_after
 Leaves words left held held_after WriteFault = BrokeOff words left held held_after
 Leaves words left held held_after status = Wrote words left held held_after status
 
 -- Writing a text either adds it and ends with its status, or fails and adds a prefix of it.
-abbrev pub Says : (held held_after : Option (List ℕ)) (faults faults_after : ℕ) → Status → List ℕ → Status → Type 0
+abbrev pub Says : (held held_after : Option (List ℕ)) (faults faults_after : ℕ)
+    → Status → List ℕ → Status → Type 0
 Says held held_after faults faults_after status text result =
     ((result ≡ status) × Appends held held_after text × (faults_after ≡ faults))
-    ⊎ ((result ≡ WriteFault) × AppendsPrefix held held_after text × Rose faults faults_after × (faults ≤ faults_after))
+    ⊎ ((result ≡ WriteFault) × AppendsPrefix held held_after text
+    × Rose faults faults_after × (faults ≤ faults_after))

@@ -1,50 +1,107 @@
 -- Which status and which text are due, for the words and for the bytes that the source has.
-use Rattle.std.specs.Prelude.{◌≡◌, ◌≢◌, ℕ, ◌<◌, ◌≤◌, true, List, [], ◌∷◌, length, map, codes, String, string_bytes}
+use Rattle.std.specs.Prelude.{◌≡◌, ◌≢◌, ℕ, ◌<◌, ◌≤◌, ◌⊎◌, true, List, [], ◌∷◌, length, map, codes, Option, Some, None, String, string_bytes}
 use Rattle.std.specs.declared.alloc.Global.{Global}
 use Rattle.dy_lex.specs.declared.limits.TheConstants.{MAX_SOURCE_BYTES}
+use Rattle.dy_syntax.specs.Files.{File}
 use Rattle.dy_syntax.specs.Small.Files.{FileText, handlers_in}
 use Rattle.dy_syntax.specs.Small.Rules.{is_well_formed}
-use Rattle.dy_parse.specs.Small.Files.{Reads}
+use Rattle.dy_parse.specs.Small.Files as small
+use Rattle.dy_show.specs.Canonical.{canon}
 use Rattle.dy_check.specs.Small.{Entry, Interleaves, KeepsOrder}
 use Rattle.dy_check.specs.Typing.{IsTyped, IsRefused}
+use Rattle.dy_tool.specs.declared.commands.Command.{Command}
+use Rattle.dy_tool.specs.declared.commands.Command.TheVariants.{Check, Show}
 use Rattle.dy_tool.specs.declared.statuses.Status.{Status}
 use Rattle.dy_tool.specs.declared.statuses.Status.TheVariants.{Done, NotAccepted, Words, Input, ReadFault, WriteFault, Memory, TooLong}
 use Rattle.dy_tool.specs.Texts.{accepted_text, refused_text, bad_words, not_built, too_long}
+use Rattle.dy_tool.specs.Protocols.{IsProtocol, HasFault, fault_text}
+use Rattle.dy_tool.specs.declared.protocols.InputFault.{InputFault}
 
--- the bytes are this file, and it is well formed
-pub record IsProtocol (bytes : List ℕ) (file : FileText) : Type 0 where
-  pub reads : Reads bytes file
+-- the bytes are some protocol
+abbrev pub IsSomeProtocol : List ℕ → Type 0
+IsSomeProtocol bytes = (file : File) × IsProtocol bytes file
+
+-- The bytes are this protocol of events and sends. Such protocols alone are checked so far.
+pub record IsSmall (bytes : List ℕ) (file : FileText) : Type 0 where
+  pub protocol : IsSomeProtocol bytes
+  pub reads : small.Reads bytes file
   pub well_formed : is_well_formed file ≡ true
 
 -- In every interleaving of a file that the bytes are, each event stands after its partners.
 abbrev pub OrderIsKept : List ℕ → Type 0
 OrderIsKept bytes = (file : FileText) (T : List Entry) →
-    IsProtocol bytes file → Interleaves bytes file T → KeepsOrder file.decls T
+    IsSmall bytes file → Interleaves bytes file T → KeepsOrder file.decls T
+
+-- a protocol that is not checked so far
+pub record IsUnbuilt (bytes : List ℕ) : Type 0 where
+  pub protocol : IsSomeProtocol bytes
+  pub other : (file : FileText) → IsSmall bytes file → ⊥
+
+-- a fault of the input, with its text
+abbrev pub IsFaulty : List ℕ → List ℕ → Type 0
+IsFaulty bytes text = (fault : InputFault) × HasFault bytes fault × (text ≡ fault_text fault)
+
+-- more bytes than a source may have
+abbrev pub IsTooLong : List ℕ → List ℕ → Type 0
+IsTooLong bytes text = (MAX_SOURCE_BYTES < length bytes) × (text ≡ too_long)
+
+-- the text for an input that `check` refuses
+abbrev pub IsRefusedInput : List ℕ → List ℕ → Type 0
+IsRefusedInput bytes text = IsFaulty bytes text ⊎ (IsUnbuilt bytes × (text ≡ not_built))
 
 -- what `check` is to answer for these bytes
 abbrev pub IsDueByCheck : List ℕ → Status → List ℕ → Type 0
 IsDueByCheck bytes Done text =
-    (file : FileText) × IsProtocol bytes file × IsTyped file × (text ≡ accepted_text (length (handlers_in file.decls)))
+    (file : FileText) × IsSmall bytes file × IsTyped file × (text ≡ accepted_text (length (handlers_in file.decls)))
 IsDueByCheck bytes NotAccepted text =
-    (file : FileText) × (line : ℕ) × (field : ℕ) × IsProtocol bytes file × IsRefused file line field
+    (file : FileText) × (line : ℕ) × (field : ℕ) × IsSmall bytes file × IsRefused file line field
     × (text ≡ refused_text line 6 field)
 IsDueByCheck bytes Input text =
-    (length bytes ≤ MAX_SOURCE_BYTES) × ((file : FileText) → IsProtocol bytes file → ⊥) × (text ≡ not_built)
-IsDueByCheck bytes TooLong text = (MAX_SOURCE_BYTES < length bytes) × (text ≡ too_long)
+    (length bytes ≤ MAX_SOURCE_BYTES) × IsRefusedInput bytes text
+IsDueByCheck bytes TooLong text = IsTooLong bytes text
 IsDueByCheck bytes Words text = ⊥
 IsDueByCheck bytes ReadFault text = ⊥
 IsDueByCheck bytes WriteFault text = ⊥
 IsDueByCheck bytes Memory text = ⊥
 
+-- what `show` is to answer: the canonical text of the file
+abbrev pub IsDueByShow : List ℕ → Status → List ℕ → Type 0
+IsDueByShow bytes Done text = (file : File) × IsProtocol bytes file × (text ≡ canon file)
+IsDueByShow bytes Input text = (length bytes ≤ MAX_SOURCE_BYTES) × IsFaulty bytes text
+IsDueByShow bytes TooLong text = IsTooLong bytes text
+IsDueByShow bytes NotAccepted text = ⊥
+IsDueByShow bytes Words text = ⊥
+IsDueByShow bytes ReadFault text = ⊥
+IsDueByShow bytes WriteFault text = ⊥
+IsDueByShow bytes Memory text = ⊥
+
 -- the words as lists of bytes
 abbrev pub words_of : List (String Global) → List (List ℕ)
 words_of words = map string_bytes words
 
--- the one list of words that is accepted
+-- the lists of words that are accepted
 abbrev pub check_words : List (List ℕ)
 check_words = codes "check" ∷ []
 
+abbrev pub show_words : List (List ℕ)
+show_words = codes "show" ∷ []
+
+-- no command has these words
+abbrev pub AreRefused : List (List ℕ) → Type 0
+AreRefused words = (words ≢ check_words) × (words ≢ show_words)
+
+-- the words are those of this command, or of none
+abbrev pub IsNamed : List (List ℕ) → Option Command → Type 0
+IsNamed words (Some Check) = words ≡ check_words
+IsNamed words (Some Show) = words ≡ show_words
+IsNamed words None = AreRefused words
+
+-- what a command is to answer for these bytes
+abbrev pub IsDueBy : Command → List ℕ → Status → List ℕ → Type 0
+IsDueBy Check bytes status text = IsDueByCheck bytes status text
+IsDueBy Show bytes status text = IsDueByShow bytes status text
+
 -- The status and the text that are due. Refused words come before all else.
 abbrev pub IsDue : List (List ℕ) → List ℕ → Status → List ℕ → Type 0
-IsDue words bytes Words text = (words ≢ check_words) × (text ≡ bad_words)
-IsDue words bytes status text = (words ≡ check_words) × IsDueByCheck bytes status text
+IsDue words bytes Words text = AreRefused words × (text ≡ bad_words)
+IsDue words bytes status text = (command : Command) × IsNamed words (Some command) × IsDueBy command bytes status text

@@ -1,4 +1,5 @@
 pub mod Statuses
 pub mod Texts
+pub mod Protocols
 pub mod Due
 pub mod Answers

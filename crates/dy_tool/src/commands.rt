@@ -1,19 +1,29 @@
-ghost use Rattle.std.specs.Prelude.{◌≡◌, ◌≢◌, ◌+◌, ◌≤◌, ◌↔◌, ◌⊎◌, IfSome, IsTrue};
+ghost use Rattle.std.specs.Prelude.{◌≡◌, ◌≢◌, ◌+◌, ◌≤◌, ◌⊎◌, length, IfOk, IfSome};
 ghost use Rattle.std.specs.Io.KnownBytes.{Keeps};
 ghost use Rattle.dy_io.specs.Bytes.{CameAtMost};
 ghost use Rattle.dy_io.specs.Faults.{Rose};
 ghost use Rattle.dy_tool.specs.Answers.{Leaves, Says};
-ghost use Rattle.dy_tool.specs.Due.{check_words, words_of, OrderIsKept};
+ghost use Rattle.dy_tool.specs.Due.{words_of, check_words, AreRefused, IsNamed, IsDueBy, OrderIsKept};
 
+use crate::answers::Answer;
 use crate::judging::judge;
 use crate::laws::accepted_keeps_order;
+use crate::showing::print_canonical;
 use crate::statuses::Status;
 use dy_io::{ReadError, Sink, Source, WriteError, read_all, write_all};
 use dy_lex::MAX_SOURCE_BYTES;
+use dy_term::Memory;
 use std::alloc::Global;
 
-/// Carries out the command of these words, which are those after the program's name. The one list
-/// that is accepted is `check`: it reads a protocol file and writes the verdict on it.
+/// What the words ask for.
+#[derive(Clone, Copy, Debug, PartialEq, Eq)]
+pub(crate) enum Command {
+    Check,
+    Show,
+}
+
+/// Carries out the command of these words, which are those after the program's name. `check` reads a
+/// protocol file and writes the verdict on it; `show` writes its canonical text.
 ///
 /// The refusals come in this order: the words, a read fault or the length as the bytes come, the
 /// file, writing. It waits for nobody, and returns for all words, sources and sinks.
@@ -26,8 +36,9 @@ pub fn quiet<S: Source, K: Sink>(
     // The status and the text are those that are due.
     ensures leaves { Leaves (words_of words.now) (S.left source.old) (K.held sink.old) (K.held sink.new) result }
 
-    // Where it is Done, every interleaving of the bytes keeps the order of events.
-    ensures order { result ≡ Status.Done → IfSome (S.left source.old) OrderIsKept }
+    // Where `check` is Done, every interleaving of the bytes keeps the order of events.
+    ensures order { words_of words.now ≡ check_words → result ≡ Status.Done →
+        IfSome (S.left source.old) OrderIsKept }
 
     // At most one byte past the limit is taken, and that one only where neither reading nor memory failed.
     ensures taken { CameAtMost (MAX_SOURCE_BYTES + 1) (S.left source.old) (S.left source.new) }
@@ -37,9 +48,9 @@ pub fn quiet<S: Source, K: Sink>(
         CameAtMost MAX_SOURCE_BYTES (S.left source.old) (S.left source.new) }
 
     // With refused words nothing is read, and memory does not run out.
-    ensures refused { words_of words.now ≢ check_words →
+    ensures refused { AreRefused (words_of words.now) →
         (result ≡ Status.Words) ⊎ (result ≡ Status.WriteFault) }
-    ensures unread { words_of words.now ≢ check_words →
+    ensures unread { AreRefused (words_of words.now) →
         Keeps (S.left source.old) (S.left source.new) × (S.faults source.new ≡ S.faults source.old) }
 
     // A fault comes only where the count rose, and where it rose nothing else comes.
@@ -50,14 +61,14 @@ pub fn quiet<S: Source, K: Sink>(
     ensures sink_kept { result ≢ Status.WriteFault → K.faults sink.new ≡ K.faults sink.old }
     ensures sink_later { K.faults sink.old ≤ K.faults sink.new }
 {
-    if !is_check(words) {
+    let Some(command) = command_of(words) else {
         return say(sink, Status::Words, b"bad words\n");
-    }
+    };
     match read_all(alloc, source, MAX_SOURCE_BYTES) {
-        Ok(bytes) => match judge(alloc, &bytes) {
+        Ok(bytes) => match answer(alloc, command, &bytes) {
             Ok(answer) => {
                 accepted_keeps_order();
-                say(sink, answer.status, answer.text.as_bytes())
+                say(sink, answer.status, answer.text.as_slice())
             }
             Err(_) => Status::Memory,
         },
@@ -67,13 +78,25 @@ pub fn quiet<S: Source, K: Sink>(
     }
 }
 
-/// Whether the words are the one word `check`.
-fn is_check(words: &[String]) -> bool
-    ensures { IsTrue result ↔ (words_of words.now ≡ check_words) }
+/// The command of these words, if they are one.
+fn command_of(words: &[String]) -> Option<Command>
+    ensures { IsNamed (words_of words.now) result }
 {
     match words {
-        [word] => word.as_str() == "check",
-        _ => false,
+        [word] if word.as_str() == "check" => Some(Command::Check),
+        [word] if word.as_str() == "show" => Some(Command::Show),
+        _ => None,
+    }
+}
+
+/// The answer of a command for an input of at most `MAX_SOURCE_BYTES` bytes.
+fn answer(alloc: Global, command: Command, bytes: &[u8]) -> Result<Answer, Memory>
+    requires { length bytes.now ≤ MAX_SOURCE_BYTES }
+    ensures { IfOk result (λ a. IsDueBy command bytes.now a.status a.text.items) }
+{
+    match command {
+        Command::Check => judge(alloc, bytes),
+        Command::Show => print_canonical(alloc, bytes),
     }
 }
 

@@ -3,14 +3,17 @@ ghost use Rattle.dy_tool.specs.Due.{IsDue, IsDueByCheck, OrderIsKept};
 ghost use Rattle.dy_tool.specs.declared.statuses.Status.{Status};
 
 use dy_check::{one_verdict, typed_keeps_order};
-use dy_parse::small::one_file;
+use dy_parse::{one_file, one_parse, small};
 
 /// For words and input bytes one status and one text are due, and no others.
 pub fn one_answer()
     ensures { (words : List (List ℕ)) (bytes : List ℕ) (status other : Status) (text other_text : List ℕ) →
-        IsDue words bytes status text → IsDue words bytes other other_text → (status ≡ other) × (text ≡ other_text) }
+        IsDue words bytes status text → IsDue words bytes other other_text →
+        (status ≡ other) × (text ≡ other_text) }
 {
     one_file();
+    one_parse();
+    small::one_file();
     one_verdict();
 }
 
@@ -18,6 +21,6 @@ pub fn one_answer()
 pub fn accepted_keeps_order()
     ensures { (bytes text : List ℕ) → IsDueByCheck bytes Status.Done text → OrderIsKept bytes }
 {
-    one_file();
+    small::one_file();
     typed_keeps_order();
 }

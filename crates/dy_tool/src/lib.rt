@@ -1,9 +1,12 @@
 //! The commands of the program, over any source and sink.
 #![tactic(auto)]
 
+mod answers;
 mod commands;
 mod judging;
 mod laws;
+mod protocols;
+mod showing;
 mod statuses;
 
 pub use commands::quiet;

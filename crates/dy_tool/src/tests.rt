@@ -7,6 +7,8 @@ use std::alloc::{AllocError, Global};
 use std::process::Abort;
 use std::test::*;
 
+mod rules;
+
 /// A job that is opened and closed, once as the protocol says.
 const JOB: &[u8] = b"dystar 1
 event Open(name a, name b);
@@ -154,39 +156,65 @@ event Ship(name a, name b) after Ask(a, b) unless b, Pay(b, a) unless a;
 }
 
 #[test]
-fn what_is_no_file_is_not_built(rt: HostRuntime) -> Result<(), Fail> {
-    let inputs: [&[u8]; 22] = [
-        b"",
-        b"dystar 2",
-        b"dystar 1\nhandler H args() { new x : Rand() secret self; }",
-        b"dystar 1\nhandler H args() { send \"pi",
-        // declared twice
-        b"dystar 1 handler H args() { } handler H args(a) { }",
-        b"dystar 1 event E(name a); event E(name a, b);",
-        b"dystar 1 handler H args(a, a) { }",
-        b"dystar 1 event E(name a, a);",
-        // not declared, or not bound
-        b"dystar 1 handler H args() { event E(self); }",
-        b"dystar 1 handler H args() { send a; }",
-        b"dystar 1 event E(name a) after F(a) unless a;",
-        b"dystar 1 event E(name a) after E(b) unless a;",
-        b"dystar 1 event E(name a) after E(self) unless a;",
-        b"dystar 1 event E(name a) after E(a) unless b;",
-        // lists of another length
-        b"dystar 1 event E(name a, b); handler H args() { event E(self); }",
-        b"dystar 1 event E(name a, b); handler H args() { event E(); }",
-        b"dystar 1 event E(name a, b) after E(a) unless a;",
-        // a name is asked for
-        b"dystar 1 event E(name a, b) after E(b, a) unless a;",
-        b"dystar 1 event E(name a, b) after E(a, b) unless b;",
-        b"dystar 1 event E(a);",
-        b"dystar 1 event E();",
-        // `self` comes first
-        b"dystar 1 event E(name a); handler H args(b) { event E(b); }",
+fn what_is_no_protocol_is_refused_at_its_line(rt: HostRuntime) -> Result<(), Fail> {
+    let cases: [(&str, &str); 7] = [
+        ("", "1: syntax"),
+        ("dystar 2", "1: syntax"),
+        ("dystar 1\nhandler H args() { send \"pi", "2: syntax"),
+        ("dystar 1\nevent E(name a)\n", "3: syntax"),
+        (
+            "dystar 1 handler H args(a, b, c, d, e,\nf, g) { }",
+            "2: limit names",
+        ),
+        // the least line, and the least rule on it
+        (
+            "dystar 1 handler H args(a,\na) { send b;\nsend c; }",
+            "2: rule w2",
+        ),
+        ("dystar 1\n/ handler H args(a, a) { }", "2: syntax"),
+    ];
+    for (input, fault) in cases {
+        let text = format!(in rt.alloc(); "line {fault}\n")?;
+        assert_answers(&rt, input.as_bytes(), Status::Input, text.as_bytes())?;
+        let got = carry_out(rt.alloc(), &["show"], input.as_bytes(), KIND)?;
+        assert_eq!(rt; got.status, Status::Input);
+        assert_eq!(rt; got.written.as_slice(), text.as_bytes());
+    }
+    Ok(())
+}
+
+#[test]
+fn a_protocol_of_more_than_events_and_sends_is_not_built(rt: HostRuntime) -> Result<(), Fail> {
+    let inputs: [&[u8]; 3] = [
+        b"dystar 1 usage nonce Rand();",
+        b"dystar 1 handler H args() recv m { send m; }",
+        b"dystar 1 handler H args() { send \"a\"(\"b\"); }",
     ];
     for input in inputs {
         assert_answers(&rt, input, Status::Input, b"not built\n")?;
     }
+    Ok(())
+}
+
+#[test]
+fn a_file_is_shown_in_its_canonical_text(rt: HostRuntime) -> Result<(), Fail> {
+    let input: &[u8] = b"dystar 1  handler Ping args ( )  {  send \"ping\" ; }
+plan{round{a:alice Ping();}}";
+    let text: &[u8] = b"dystar 1
+handler Ping args() {
+  send \"ping\";
+}
+plan {
+  round { a: alice Ping(); }
+}
+";
+    for bytes in [input, text] {
+        let got = carry_out(rt.alloc(), &["show"], bytes, KIND)?;
+        assert_eq!(rt; got.status, Status::Done);
+        assert_eq!(rt; got.written.as_slice(), text);
+    }
+    let job = carry_out(rt.alloc(), &["show"], JOB, KIND)?;
+    assert_eq!(rt; job.written.as_slice(), JOB);
     Ok(())
 }
 
@@ -211,9 +239,10 @@ fn one_byte_past_the_limit_is_too_long(rt: HostRuntime) -> Result<(), Fail> {
 
 #[test]
 fn refused_words_read_nothing(rt: HostRuntime) -> Result<(), Fail> {
-    let lists: [&[&str]; 7] = [
+    let lists: [&[&str]; 8] = [
         &[],
-        &["show"],
+        &["show", "show"],
+        &["Show"],
         &["check", "x"],
         &["check", "check"],
         &["Check"],
@@ -292,7 +321,7 @@ fn a_refusal_that_cannot_be_written_is_a_write_fault(rt: HostRuntime) -> Result<
         failing_write: 1,
         ..KIND
     };
-    for (words, input) in [(["check"], b"".as_slice()), (["show"], JOB)] {
+    for (words, input) in [(["check"], b"".as_slice()), (["shown"], JOB)] {
         let got = carry_out(rt.alloc(), &words, input, outside)?;
         assert_eq!(rt; got.status, Status::WriteFault);
         assert!(rt; got.written.is_empty());

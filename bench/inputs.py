@@ -1,0 +1,122 @@
+"""Inputs of 1 MiB for the benchmarks of the program, and how a command is timed on them."""
+import os
+import pathlib
+import subprocess
+import tempfile
+import time
+
+TOP = pathlib.Path(__file__).resolve().parent.parent
+PROGRAM = TOP / "crates/dy_main/out/dy_main"
+SIZE = 1_048_576
+
+
+def filled(parts, end=""):
+    """As many of these parts as there is room for, and then the end."""
+    text, room = ["dystar 1\n"], SIZE - len("dystar 1\n") - len(end)
+    for part in parts:
+        if len(part) > room:
+            break
+        text.append(part)
+        room -= len(part)
+    return "".join(text) + end
+
+
+def handlers(statement, head="args()"):
+    """Handlers of 64 such statements, as many as a file may have."""
+    return (f"handler H{number} {head} {{\n{statement * 64}}}\n" for number in range(256))
+
+
+def short_tokens():
+    fields = ",".join(['"b"'] * 14)
+    return filled(handlers(f'send "a"({fields});\n'))
+
+
+def deep_expressions():
+    return filled(handlers("send " + "hash(" * 62 + '"a"' + ")" * 62 + ";\n"))
+
+
+def many_variables():
+    def statement(first):
+        return f'split m as "t"({", ".join(f"v{first + i}" for i in range(16))});\n'
+    body = "".join(statement(16 * number) for number in range(63))
+    return filled(f"handler H{number} args() recv m {{\n{body}}}\n" for number in range(256))
+
+
+def many_handlers():
+    text = "t" * 32
+    return filled(handlers(f'{" " * 17}send "{text}";\n'))
+
+
+def long_plan():
+    recipe = '"t"(' + ", ".join([f'pair("{"a" * 20}", hash("{"b" * 20}"))'] * 16) + ")"
+    steps = (f"s{number}: inject {recipe};\n" for number in range(1024))
+    return filled(("plan {\nround {\n", *steps), "}\n}\n")
+
+
+def past_a_limit():
+    return "dystar 1\nhandler H args() {\n" + '  send "job";\n' * 74_000 + "}\n"
+
+
+INPUTS = {
+    "many short tokens": short_tokens,
+    "deep expressions": deep_expressions,
+    "many variables": many_variables,
+    "many handlers": many_handlers,
+    "one long plan": long_plan,
+    "past a limit": past_a_limit,
+}
+
+
+def seconds(command, path, rounds):
+    """The least time of the rounds, for the program itself and not for the script that builds it."""
+    best = float("inf")
+    for _ in range(rounds):
+        with open(path, "rb") as source:
+            begin = time.perf_counter()
+            subprocess.run(command, stdin=source, stdout=subprocess.DEVNULL)
+            best = min(best, time.perf_counter() - begin)
+    return best
+
+
+def peak_mib(command, path):
+    """The peak of resident memory, read while the program waits to write its answer into a full pipe."""
+    out, full = os.pipe()
+    os.set_blocking(full, False)
+    try:
+        while True:
+            os.write(full, b"x" * 4096)
+    except BlockingIOError:
+        os.set_blocking(full, True)
+    with open(path, "rb") as source:
+        process = subprocess.Popen(command, stdin=source, stdout=full)
+    before, peak = -1, 0
+    while peak != before:
+        before = peak
+        time.sleep(0.2)
+        status = pathlib.Path(f"/proc/{process.pid}/status").read_text()
+        peak = int(next(line.split()[1] for line in status.splitlines() if line.startswith("VmHWM")))
+    os.close(full)
+    while os.read(out, 65536):
+        pass
+    os.close(out)
+    process.wait()
+    return peak / 1024
+
+
+def compare(word, other, rounds):
+    """Prints, for each input, the time and peak memory of the program and of the other command."""
+    subprocess.run([TOP / "laskfort", "check"], stdin=subprocess.DEVNULL, stdout=subprocess.DEVNULL)
+    for name, make in INPUTS.items():
+        data = make().encode()
+        assert len(data) <= SIZE, name
+        with tempfile.NamedTemporaryFile() as file:
+            file.write(data + b" " * (SIZE - len(data)))
+            file.flush()
+            with open(file.name, "rb") as source:
+                printed = subprocess.run([PROGRAM, word], stdin=source, stdout=subprocess.PIPE).stdout
+            first = printed.decode().split("\n")[0]
+            ours = seconds([PROGRAM, word], file.name, rounds)
+            theirs = seconds([other], file.name, rounds)
+            memory = peak_mib([PROGRAM, word], file.name)
+        print(f"{name}: {word} {ours * 1000:.1f} ms, {memory:.1f} MiB ({first}); "
+              f"{other} {theirs * 1000:.1f} ms; times {other} {ours / theirs:.1f}")
