@@ -1,5 +1,5 @@
 use crate::{Leaves, ROUNDS, Times, out_of_memory, text};
-use dy_flat::{FlatTerm, Parts, View, lit, nonce, pair, pk, take_apart};
+use dy_flat::{FlatTerm, View, first, lit, nonce, pair, pk, second};
 use dy_term::Memory;
 use std::alloc::Global;
 use std::io;
@@ -54,12 +54,12 @@ fn leaves(alloc: Global, term: View) -> Result<u32, Memory> {
         let Some(term) = next else {
             break;
         };
-        match take_apart(term) {
-            Parts::Pair(first, second) => {
-                if rest.push(second).is_err() {
+        match (first(term), second(term)) {
+            (Some(one), Some(two)) => {
+                if rest.push(two).is_err() {
                     return Err(Memory);
                 }
-                next = Some(first);
+                next = Some(one);
             }
             _ => {
                 found = found.saturating_add(1);
