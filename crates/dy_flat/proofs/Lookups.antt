@@ -8,24 +8,24 @@ use Rattle.dy_flat.specs.declared.flat_nodes.Node.{Node}
 use Rattle.dy_flat.specs.declared.flat_nodes.Node.TheVariants as code
 use Rattle.dy_flat.specs.declared.contents.Contents.{Contents}
 use Rattle.dy_flat.specs.Runs as runs
-use Rattle.dy_flat.specs.Meaning.{read, read_all, known}
+use Rattle.dy_flat.specs.Meaning.{read, read_all, known_nodes}
 use Rattle.dy_flat.specs.Extending.{Extends}
 use Rattle.dy_flat.specs.Growth.{Grows}
 
 -- ---- what is known
 
-known-map : (m : List runs.Node) → known (map Some m) ≡ m
-known-map [] = refl
-known-map (n ∷ m) = ap (λ more. n ∷ more) (known-map m)
+known_nodes-map : (m : List runs.Node) → known_nodes (map Some m) ≡ m
+known_nodes-map [] = refl
+known_nodes-map (n ∷ m) = ap (λ more. n ∷ more) (known_nodes-map m)
 
-pub known_is : (xs : List (Option runs.Node)) (m : List runs.Node) → xs ≡ map Some m → known xs ≡ m
-known_is xs m e = ap known e ∙ known-map m
+pub known_is : (xs : List (Option runs.Node)) (m : List runs.Node) → xs ≡ map Some m → known_nodes xs ≡ m
+known_is xs m e = ap known_nodes e ∙ known_nodes-map m
 
-pub all_known : (xs : List (Option runs.Node)) (m : List runs.Node) → xs ≡ map Some m → xs ≡ map Some (known xs)
+pub all_known : (xs : List (Option runs.Node)) (m : List runs.Node) → xs ≡ map Some m → xs ≡ map Some (known_nodes xs)
 all_known xs m e = e ∙ ap (map Some) (sym (known_is xs m e))
 
 pub map-Some-same : (m n : List runs.Node) → map Some m ≡ map Some n → m ≡ n
-map-Some-same m n e = sym (known-map m) ∙ ap known e ∙ known-map n
+map-Some-same m n e = sym (known_nodes-map m) ∙ ap known_nodes e ∙ known_nodes-map n
 
 -- ---- contents that grow
 
@@ -83,7 +83,7 @@ pub read_all-added : (old new : Contents) → Grows old new → (nodes more : Li
 read_all-added old new grows nodes more m node n true is all one = rw is (read_all-push new nodes m node n (read_all-grows old new grows nodes m all) one)
 read_all-added old new grows nodes more m node n false is all one = rw is (read_all-grows old new grows nodes m all)
 
-pub added_known : {E : Type 0} (r : Result (Unit {0}) E) (old new : Contents) → Grows old new → (nodes more : List Node) (m : List runs.Node) (node : Node) (n : runs.Node) → more ≡ (if is_ok r then nodes ++ node ∷ [] else nodes) → read_all old nodes ≡ map Some m → read new node ≡ Some n → IfOk r (λ _. known (read_all new more) ≡ m ++ n ∷ [])
+pub added_known : {E : Type 0} (r : Result (Unit {0}) E) (old new : Contents) → Grows old new → (nodes more : List Node) (m : List runs.Node) (node : Node) (n : runs.Node) → more ≡ (if is_ok r then nodes ++ node ∷ [] else nodes) → read_all old nodes ≡ map Some m → read new node ≡ Some n → IfOk r (λ _. known_nodes (read_all new more) ≡ m ++ n ∷ [])
 added_known (Ok done) old new grows nodes more m node n is all one = known_is _ _ (read_all-added old new grows nodes more m node n true is all one)
 added_known (Err error) old new grows nodes more m node n is all one = tt
 

@@ -3,9 +3,9 @@ use Rattle.std.proofs.Common.{◌≡◌, ℕ, zero, suc, ◌+◌, ◌-◌, ◌<�
 use Rattle.std.proofs.lemmas.Bool.{and_parts, and_from}
 use Rattle.dy_term.specs.Terms.{Term, Lit, Name, Nonce, Pair, Pk, Vk, Penc, Aead, Sign, Mac, Kdf, Hash}
 use Rattle.dy_term.specs.Sameness.{is_same}
-use Rattle.dy_term.specs.Tuples.{nested, tagged}
+use Rattle.dy_term.specs.Tuples.{right_pairs, tagged_tuple}
 use Rattle.dy_flat.specs.Parts as parts
-use Rattle.dy_flat.specs.MirrorTuples.{unnested, has_pairs, is_tuple}
+use Rattle.dy_flat.specs.MirrorTuples.{parts_of_pairs, has_pairs, is_tuple}
 
 -- two terms are the same only where they are equal
 abbrev pub Equals : Type 0
@@ -18,9 +18,9 @@ Itself = (a : Term) → is_same a a ≡ true
 record Nests (count : ℕ) (term : Term) : Type 0 where
   pub first : Term
   pub more : List Term
-  pub are : unnested (suc count) term ≡ first ∷ more
+  pub are : parts_of_pairs (suc count) term ≡ first ∷ more
   pub long : length more ≡ count
-  pub nest : term ≡ nested first more
+  pub nest : term ≡ right_pairs first more
 
 nests : (count : ℕ) (term : Term) → has_pairs count term ≡ true → Nests count term
 nests zero term deep = record { first = term; more = []; are = refl; long = refl; nest = refl }
@@ -45,32 +45,32 @@ nests (suc count) (Mac a b) deep = absurd (cc)
 nests (suc count) (Kdf a c b) deep = absurd (cc)
 nests (suc count) (Hash a) deep = absurd (cc)
 
-has_pairs-nested : (first : Term) (more : List Term) → has_pairs (length more) (nested first more) ≡ true
-has_pairs-nested first [] = refl
-has_pairs-nested first (next ∷ more) = has_pairs-nested next more
+has_pairs-right_pairs : (first : Term) (more : List Term) → has_pairs (length more) (right_pairs first more) ≡ true
+has_pairs-right_pairs first [] = refl
+has_pairs-right_pairs first (next ∷ more) = has_pairs-right_pairs next more
 
 -- The term is the tuple of this tag and of these fields, which are so many.
 pub record IsTupleOf (tag : List ℕ) (count : ℕ) (term : Term) (fields : List Term) : Type 0 where
-  pub is : term ≡ tagged tag fields
+  pub is : term ≡ tagged_tuple tag fields
   pub many : length fields ≡ count
 
-alone : Equals → (tag : List ℕ) (term rest : Term) → is_tuple tag 0 term ≡ true → IsTupleOf tag 0 term (unnested 0 rest)
+alone : Equals → (tag : List ℕ) (term rest : Term) → is_tuple tag 0 term ≡ true → IsTupleOf tag 0 term (parts_of_pairs 0 rest)
 alone equals tag term rest same = record { is = equals term (Lit tag) same; many = refl }
 
-with_fields : Equals → (tag : List ℕ) (more : ℕ) (prefix rest : Term) → is_same prefix (Lit tag) && has_pairs more rest ≡ true → IsTupleOf tag (suc more) (Pair prefix rest) (unnested (suc more) rest)
+with_fields : Equals → (tag : List ℕ) (more : ℕ) (prefix rest : Term) → is_same prefix (Lit tag) && has_pairs more rest ≡ true → IsTupleOf tag (suc more) (Pair prefix rest) (parts_of_pairs (suc more) rest)
 with_fields equals tag more prefix rest is =
     let both = and_parts (is_same prefix (Lit tag)) (has_pairs more rest) is in
     let inner = nests more rest both.1 in
     record {
-      is = ap (λ (t : Term). Pair t rest) (equals prefix (Lit tag) both.0) ∙ ap (Pair (Lit tag)) inner.nest ∙ ap (tagged tag) (sym inner.are);
+      is = ap (λ (t : Term). Pair t rest) (equals prefix (Lit tag) both.0) ∙ ap (Pair (Lit tag)) inner.nest ∙ ap (tagged_tuple tag) (sym inner.are);
       many = ap length inner.are ∙ ap suc inner.long;
     }
 
-pub tuple_alone : Equals → (tag : List ℕ) (count : ℕ) (term rest : Term) → count ≡ 0 → is_tuple tag count term ≡ true → IsTupleOf tag count term (unnested 0 rest)
+pub tuple_alone : Equals → (tag : List ℕ) (count : ℕ) (term rest : Term) → count ≡ 0 → is_tuple tag count term ≡ true → IsTupleOf tag count term (parts_of_pairs 0 rest)
 tuple_alone equals tag zero term rest none is = alone equals tag term rest is
 tuple_alone equals tag (suc count) term rest none is = absurd (omega (arith, none))
 
-pub tuple_with : Equals → (tag : List ℕ) (count : ℕ) (term rest : Term) → (count ≡ 0 → ⊥) → is_tuple tag count term ≡ true → Some rest ≡ parts.second term → IsTupleOf tag count term (unnested count rest)
+pub tuple_with : Equals → (tag : List ℕ) (count : ℕ) (term rest : Term) → (count ≡ 0 → ⊥) → is_tuple tag count term ≡ true → Some rest ≡ parts.second term → IsTupleOf tag count term (parts_of_pairs count rest)
 tuple_with equals tag zero term rest some is second = absurd (some refl)
 tuple_with equals tag (suc more) (Pair prefix back) rest some is second = let same : back ≡ rest = cc in rw (← same) (with_fields equals tag more prefix back is)
 tuple_with equals tag (suc more) (Lit text) rest some is second = absurd (cc)
@@ -85,11 +85,11 @@ tuple_with equals tag (suc more) (Mac a b) rest some is second = absurd (cc)
 tuple_with equals tag (suc more) (Kdf a c b) rest some is second = absurd (cc)
 tuple_with equals tag (suc more) (Hash a) rest some is second = absurd (cc)
 
-tagged_is : Itself → (tag : List ℕ) (fields : List Term) → is_tuple tag (length fields) (tagged tag fields) ≡ true
+tagged_is : Itself → (tag : List ℕ) (fields : List Term) → is_tuple tag (length fields) (tagged_tuple tag fields) ≡ true
 tagged_is itself tag [] = itself (Lit tag)
-tagged_is itself tag (first ∷ more) = and_from _ _ (itself (Lit tag)) (has_pairs-nested first more)
+tagged_is itself tag (first ∷ more) = and_from _ _ (itself (Lit tag)) (has_pairs-right_pairs first more)
 
-pub no_tuple : Itself → (tag : List ℕ) (count : ℕ) (term : Term) → is_tuple tag count term ≡ false → (fields : List Term) → length fields ≡ count → term ≡ tagged tag fields → ⊥
+pub no_tuple : Itself → (tag : List ℕ) (count : ℕ) (term : Term) → is_tuple tag count term ≡ false → (fields : List Term) → length fields ≡ count → term ≡ tagged_tuple tag fields → ⊥
 no_tuple itself tag count term none fields many is =
     let yes : is_tuple tag count term ≡ true = rw (is, ← many) (tagged_is itself tag fields) in
     cc

@@ -8,10 +8,10 @@ use Rattle.dy_flat.specs.declared.contents.Contents.{Contents}
 use Rattle.dy_flat.specs.Runs as runs
 use Rattle.dy_flat.specs.Runs.{run_of, term_of}
 use Rattle.dy_flat.specs.MirrorCodes.{term_of-run_of}
-use Rattle.dy_flat.specs.Meaning.{read, read_all, known, IsWhole}
+use Rattle.dy_flat.specs.Meaning.{read, read_all, known_nodes, IsWhole}
 use Rattle.dy_flat.proofs.Lookups.{known_is}
 
-pub term_is : (contents : Contents) (nodes : List Node) (t : trees.Term) → read_all contents nodes ≡ map Some (run_of t) → term_of (known (read_all contents nodes)) ≡ t
+pub term_is : (contents : Contents) (nodes : List Node) (t : trees.Term) → read_all contents nodes ≡ map Some (run_of t) → term_of (known_nodes (read_all contents nodes)) ≡ t
 term_is contents nodes t e = ap term_of (known_is (read_all contents nodes) (run_of t) e) ∙ term_of-run_of t
 
 pub whole_is : (contents : Contents) (nodes : List Node) (t : trees.Term) → read_all contents nodes ≡ map Some (run_of t) → IsWhole contents nodes

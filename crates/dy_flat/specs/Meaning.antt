@@ -29,14 +29,14 @@ abbrev pub read_all : Contents → List Node → List (Option runs.Node)
 read_all contents nodes = map (read contents) nodes
 
 -- those that are not missing
-abbrev pub known : List (Option runs.Node) → List runs.Node
-known [] = []
-known (Some node ∷ nodes) = node ∷ known nodes
-known (None ∷ nodes) = known nodes
+abbrev pub known_nodes : List (Option runs.Node) → List runs.Node
+known_nodes [] = []
+known_nodes (Some node ∷ nodes) = node ∷ known_nodes nodes
+known_nodes (None ∷ nodes) = known_nodes nodes
 
 -- The nodes are the run of one whole term.
 abbrev pub IsWhole : Contents → List Node → Type 0
-IsWhole contents nodes = read_all contents nodes ≡ map Some (run_of (term_of (known (read_all contents nodes))))
+IsWhole contents nodes = read_all contents nodes ≡ map Some (run_of (term_of (known_nodes (read_all contents nodes))))
 
 pub IsWhole-prop : (contents : Contents) (nodes : List Node) → IsProp (IsWhole contents nodes)
 IsWhole-prop contents nodes = Coded-set (coded_list (coded_option node_code)) _ _

@@ -6,15 +6,15 @@ use Rattle.dy_flat.specs.declared.tuples.Fields.{Fields}
 use Rattle.dy_flat.specs.Views.{tree_of}
 
 -- so many terms that are nested to the right
-abbrev pub unnested : ℕ → Term → List Term
-unnested zero term = []
-unnested (suc zero) term = term ∷ []
-unnested (suc (suc more)) (Pair first rest) = first ∷ unnested (suc more) rest
-unnested (suc (suc more)) _ = []
+abbrev pub parts_of_pairs : ℕ → Term → List Term
+parts_of_pairs zero term = []
+parts_of_pairs (suc zero) term = term ∷ []
+parts_of_pairs (suc (suc more)) (Pair first rest) = first ∷ parts_of_pairs (suc more) rest
+parts_of_pairs (suc (suc more)) _ = []
 
 -- the fields that are not lent yet
 abbrev pub fields_left : Fields → List Term
-fields_left fields = unnested fields.left (tree_of fields.rest)
+fields_left fields = parts_of_pairs fields.left (tree_of fields.rest)
 
 -- so many pairs are nested to the right
 abbrev pub has_pairs : ℕ → Term → Bool

@@ -49,19 +49,19 @@ abbrev pub steps_of : trees.Term → List Step
 steps_of term = steps_from 0 term
 
 -- the terms of these steps: the parts of a term, each after its own parts, and then the term
-abbrev pub walked : trees.Term → List trees.Term
-walked (trees.Lit text) = trees.Lit text ∷ []
-walked (trees.Name principal) = trees.Name principal ∷ []
-walked (trees.Nonce index) = trees.Nonce index ∷ []
-walked (trees.Pair a b) = walked b ++ (walked a ++ trees.Pair a b ∷ [])
-walked (trees.Pk k) = walked k ++ trees.Pk k ∷ []
-walked (trees.Vk k) = walked k ++ trees.Vk k ∷ []
-walked (trees.Penc p m) = walked m ++ (walked p ++ trees.Penc p m ∷ [])
-walked (trees.Aead k m a) = walked a ++ (walked m ++ (walked k ++ trees.Aead k m a ∷ []))
-walked (trees.Sign k m) = walked m ++ (walked k ++ trees.Sign k m ∷ [])
-walked (trees.Mac k m) = walked m ++ (walked k ++ trees.Mac k m ∷ [])
-walked (trees.Kdf k context x) = walked x ++ (walked k ++ trees.Kdf k context x ∷ [])
-walked (trees.Hash m) = walked m ++ trees.Hash m ∷ []
+abbrev pub walk_of : trees.Term → List trees.Term
+walk_of (trees.Lit text) = trees.Lit text ∷ []
+walk_of (trees.Name principal) = trees.Name principal ∷ []
+walk_of (trees.Nonce index) = trees.Nonce index ∷ []
+walk_of (trees.Pair a b) = walk_of b ++ (walk_of a ++ trees.Pair a b ∷ [])
+walk_of (trees.Pk k) = walk_of k ++ trees.Pk k ∷ []
+walk_of (trees.Vk k) = walk_of k ++ trees.Vk k ∷ []
+walk_of (trees.Penc p m) = walk_of m ++ (walk_of p ++ trees.Penc p m ∷ [])
+walk_of (trees.Aead k m a) = walk_of a ++ (walk_of m ++ (walk_of k ++ trees.Aead k m a ∷ []))
+walk_of (trees.Sign k m) = walk_of m ++ (walk_of k ++ trees.Sign k m ∷ [])
+walk_of (trees.Mac k m) = walk_of m ++ (walk_of k ++ trees.Mac k m ∷ [])
+walk_of (trees.Kdf k context x) = walk_of x ++ (walk_of k ++ trees.Kdf k context x ∷ [])
+walk_of (trees.Hash m) = walk_of m ++ trees.Hash m ∷ []
 
 -- what a constructor makes of two terms, where both are there
 abbrev pub of_two : (trees.Term → trees.Term → trees.Term)

@@ -1,6 +1,6 @@
 ghost use Rattle.std.specs.Prelude.{◌≡◌, [], ◌∷◌, ◌++◌, IfOk, length, map};
 ghost use Rattle.dy_term.specs.Terms as trees;
-ghost use Rattle.dy_term.specs.Tuples.{tagged};
+ghost use Rattle.dy_term.specs.Tuples.{tagged_tuple};
 ghost use Rattle.dy_flat.specs.Runs.{run_of, made_of};
 ghost use Rattle.dy_flat.specs.NodeMeaning.{node_of};
 ghost use Rattle.dy_flat.specs.Views.{tree_of};
@@ -155,7 +155,7 @@ fn nodes_of_tuple(fields: &[View]) -> usize {
 
 /// The tuple of a tag and fields, `"tag"(field, .., field)`. The one refusal is out of memory.
 pub fn tuple(alloc: Global, tag: &Text, fields: &[View]) -> Result<FlatTerm, Memory>
-    ensures { IfOk result (λ made. made ≡ tagged tag.now (map tree_of fields.now)) }
+    ensures { IfOk result (λ made. made ≡ tagged_tuple tag.now (map tree_of fields.now)) }
 {
     let [first, more @ ..] = fields else {
         return lit(alloc, tag);

@@ -27,9 +27,9 @@ impl Model for FlatTerm {
     ghost coded = { term_code };
 
     ghost use Rattle.dy_flat.specs.Runs.{term_of};
-    ghost use Rattle.dy_flat.specs.Meaning.{IsWhole, read_all, known};
+    ghost use Rattle.dy_flat.specs.Meaning.{IsWhole, read_all, known_nodes};
 
-    ghost view = { λ t. term_of (known (read_all t.contents t.nodes.items)) };
+    ghost view = { λ t. term_of (known_nodes (read_all t.contents t.nodes.items)) };
 
     ghost invariant = { λ t. IsWhole t.contents t.nodes.items };
 }

@@ -1,7 +1,7 @@
 ghost use Rattle.std.specs.Prelude.{◌≡◌, ℕ, ◌<◌, Some, List, [], ◌∷◌, ◌++◌, length, slice_get};
 ghost use Rattle.dy_term.specs.Terms.{Term, size};
 ghost use Rattle.dy_flat.specs.Parts.{parts_of};
-ghost use Rattle.dy_flat.specs.Walks.{steps_of, walked, terms_by_steps};
+ghost use Rattle.dy_flat.specs.Walks.{steps_of, walk_of, terms_by_steps};
 
 /// A part has fewer nodes than the whole.
 pub fn part_is_smaller()
@@ -11,7 +11,7 @@ pub fn part_is_smaller()
 
 /// The steps of a term, each over the terms of earlier steps, make its parts and last the term: one for each node.
 pub fn steps_give_term()
-    ensures terms { (term : Term) → terms_by_steps [] (steps_of term) ≡ Some (walked term) }
-    ensures last { (term : Term) → (parts : List Term) × (walked term ≡ parts ++ term ∷ []) }
-    ensures each { (term : Term) → length (walked term) ≡ size term }
+    ensures terms { (term : Term) → terms_by_steps [] (steps_of term) ≡ Some (walk_of term) }
+    ensures last { (term : Term) → (parts : List Term) × (walk_of term ≡ parts ++ term ∷ []) }
+    ensures each { (term : Term) → length (walk_of term) ≡ size term }
 {}

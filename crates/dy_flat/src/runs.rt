@@ -25,12 +25,13 @@ impl Model for Run {
 
     ghost coded = { run_code };
 
-    ghost use Rattle.dy_flat.specs.Meaning.{read_all, known};
+    ghost use Rattle.dy_flat.specs.Meaning.{read_all, known_nodes};
 
-    ghost view = { λ r. known (read_all r.contents.contents r.nodes.items) };
+    ghost view = { λ r. known_nodes (read_all r.contents.contents r.nodes.items) };
 
     ghost invariant = { λ r.
-        read_all r.contents.contents r.nodes.items ≡ map Some (known (read_all r.contents.contents r.nodes.items)) };
+        read_all r.contents.contents r.nodes.items
+        ≡ map Some (known_nodes (read_all r.contents.contents r.nodes.items)) };
 }
 
 fn add(nodes: &mut Vec<Node>, node: Node) -> Result<(), Memory>

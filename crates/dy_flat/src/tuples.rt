@@ -1,7 +1,7 @@
 ghost use Rattle.std.specs.Prelude.{◌≡◌, List, [], ◌∷◌, MatchOption, length, IfSome, IfNone};
 ghost use Rattle.dy_term.specs.Terms.{Term, Lit};
 ghost use Rattle.dy_term.specs.Sameness.{is_same};
-ghost use Rattle.dy_term.specs.Tuples.{tagged};
+ghost use Rattle.dy_term.specs.Tuples.{tagged_tuple};
 ghost use Rattle.dy_flat.specs.Views.{tree_of};
 ghost use Rattle.dy_flat.specs.MirrorTuples as mirror;
 ghost use Rattle.dy_flat.specs.MirrorTuples.{fields_left};
@@ -85,10 +85,10 @@ fn is_tuple(view: View, tag: &Text, count: usize) -> bool
 
 /// Lends the fields of a tuple of this tag and so many fields. `None` exactly where the term is none.
 pub fn tuple_fields<'a>(view: View<'a>, tag: &Text, count: usize) -> Option<Fields<'a>>
-    ensures fields { IfSome result (λ fields. tree_of view.entry ≡ tagged tag.now (fields_left fields)) }
+    ensures fields { IfSome result (λ fields. tree_of view.entry ≡ tagged_tuple tag.now (fields_left fields)) }
     ensures count { IfSome result (λ fields. length (fields_left fields) ≡ count) }
     ensures none { IfNone result ((fields : List Term) → length fields ≡ count →
-        tree_of view.entry ≡ tagged tag.now fields → ⊥) }
+        tree_of view.entry ≡ tagged_tuple tag.now fields → ⊥) }
 {
     sameness_is_equality();
     if !is_tuple(view, tag, count) {

@@ -6,7 +6,7 @@ use Rattle.std.proofs.lemmas.Bool.{cases_Bool, and_parts, and_from, cond-true, c
 use Rattle.std.proofs.lemmas.Bool.Decides.{nat_tests}
 use Rattle.std.proofs.lemmas.List.{length-take, length-append, append_assoc, take_at, take_more, get_or_at}
 use Rattle.std.proofs.lemmas.List.Sums.{prefix_len-le-length}
-use Rattle.dy_term.specs.Characters.{is_word_byte, is_text_byte, is_long_word, is_long_text, quoted}
+use Rattle.dy_term.specs.Characters.{is_word_byte, is_text_byte, is_long_word, is_long_text, in_quotes}
 use Rattle.dy_lex.specs.declared.tokens.TokenKind.{TokenKind}
 use Rattle.dy_lex.specs.declared.tokens.TokenKind.TheVariants.{Word, Number, Text, Symbol}
 use Rattle.dy_lex.specs.Symbols.{is_blank, is_number, is_mark, is_symbol, IsToken, runs_on}
@@ -199,7 +199,7 @@ number_again (b ∷ more) rest number stops =
     cond-false _ _ _ (digit_is_no_letter b digit) ∙ cond-true _ _ _ digit ∙ number_found (b ∷ more) rest number stops
 
 -- a text is found at the start
-text_again : (inner rest : List ℕ) → is_long_text inner ≡ true → token_prefix (quoted inner ++ rest) ≡ Some (Text, length (quoted inner))
+text_again : (inner rest : List ℕ) → is_long_text inner ≡ true → token_prefix (in_quotes inner ++ rest) ≡ Some (Text, length (in_quotes inner))
 text_again inner rest passes =
     let len : prefix_len is_text_byte (inner ++ 34 ∷ rest) ≡ length inner = omega (arith, prefix_len-through is_text_byte inner (34 ∷ rest) passes) in
     let within : nat_lt (length inner) (length (inner ++ 34 ∷ rest)) ≡ true = lt-ltb _ _ (omega (arith, length-append inner (34 ∷ rest))) in

@@ -2,7 +2,7 @@
 use Rattle.std.specs.Prelude.{◌≡◌, ℕ, Bool, true, false, not, ◌&&◌, ◌||◌, ◌==◌, nat_le, List, [], ◌∷◌, length, codes}
 use Rattle.std.specs.List.{list_all, list_any}
 use Rattle.std.specs.Char.{is_ascii_digit}
-use Rattle.dy_term.specs.Characters.{is_word_byte, is_long_word, is_long_text, quoted}
+use Rattle.dy_term.specs.Characters.{is_word_byte, is_long_word, is_long_text, in_quotes}
 use Rattle.dy_term.specs.declared.letters.TheConstants.{SPACE, ZERO}
 use Rattle.dy_lex.specs.declared.letters.TheConstants.{TAB, NEWLINE, CARRIAGE_RETURN, MINUS, GREATER}
 use Rattle.dy_lex.specs.declared.limits.TheConstants.{MAX_DIGITS}
@@ -36,7 +36,7 @@ is_symbol (b ∷ c ∷ d ∷ more) = false
 abbrev pub IsToken : TokenKind → List ℕ → Type 0
 IsToken Word text = is_long_word text ≡ true
 IsToken Number text = is_number text ≡ true
-IsToken Text text = (inner : List ℕ) × (is_long_text inner ≡ true) × (text ≡ quoted inner)
+IsToken Text text = (inner : List ℕ) × (is_long_text inner ≡ true) × (text ≡ in_quotes inner)
 IsToken Symbol text = is_symbol text ≡ true
 
 -- What follows begins with a letter, a digit or `_`. It would belong to a word, and may not follow a number.

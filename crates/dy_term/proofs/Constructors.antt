@@ -1,7 +1,7 @@
 -- The text and the size of a constructor, by its parts.
 use Rattle.std.proofs.Common.{◌≡◌, ℕ, ◌+◌, List, [], ◌∷◌, ◌++◌, codes, refl, ap, ◌∙◌}
 use Rattle.std.proofs.lemmas.List.{append_assoc}
-use Rattle.dy_term.specs.Characters.{quoted}
+use Rattle.dy_term.specs.Characters.{in_quotes}
 use Rattle.dy_term.specs.Terms.{Term, Aead, Kdf, size}
 use Rattle.dy_term.specs.TermText.{term_text}
 use Rattle.dy_term.specs.declared.begun.Single.{Single}
@@ -51,6 +51,6 @@ aead_text key message associated = rw (append_assoc, append_assoc, append_assoc,
 pub kdf_text : (key : Term) (context : List ℕ) (input : Term) → term_text (Kdf key context input) ≡ codes "kdf(" ++ (term_text key ++ (codes ", \"" ++ (context ++ (codes "\", " ++ (term_text input ++ codes ")")))))
 kdf_text key context input =
     let rest = codes ", " ++ (term_text input ++ codes ")") in
-    let inner : quoted context ++ rest ≡ 34 ∷ (context ++ 34 ∷ rest) = ap (λ (xs : List ℕ). 34 ∷ xs) (append_assoc context (34 ∷ []) rest) in
-    let parts : term_text (Kdf key context input) ≡ codes "kdf(" ++ (term_text key ++ (codes ", " ++ (quoted context ++ rest))) = rw (append_assoc, append_assoc, append_assoc, append_assoc) refl in
+    let inner : in_quotes context ++ rest ≡ 34 ∷ (context ++ 34 ∷ rest) = ap (λ (xs : List ℕ). 34 ∷ xs) (append_assoc context (34 ∷ []) rest) in
+    let parts : term_text (Kdf key context input) ≡ codes "kdf(" ++ (term_text key ++ (codes ", " ++ (in_quotes context ++ rest))) = rw (append_assoc, append_assoc, append_assoc, append_assoc) refl in
     parts ∙ ap (λ (xs : List ℕ). codes "kdf(" ++ (term_text key ++ (codes ", " ++ xs))) inner

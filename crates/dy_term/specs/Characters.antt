@@ -31,8 +31,8 @@ abbrev pub is_text : List ℕ → Bool
 is_text bytes = is_long_text bytes && nat_le (length bytes) MAX_LENGTH
 
 -- the bytes of a text between two `"`
-abbrev pub quoted : List ℕ → List ℕ
-quoted inner = QUOTE ∷ (inner ++ QUOTE ∷ [])
+abbrev pub in_quotes : List ℕ → List ℕ
+in_quotes inner = QUOTE ∷ (inner ++ QUOTE ∷ [])
 
 -- a letter, a digit or `_` stands first
 abbrev pub begins_with_word_byte : List ℕ → Bool

@@ -1,6 +1,6 @@
 ghost use Rattle.std.specs.Prelude.{◌≡◌, ◌++◌, List, ℕ, [], ◌∷◌, true, IfOk, codes};
 ghost use Rattle.dy_term.specs.Meaning.{tree_of};
-ghost use Rattle.dy_term.specs.Characters.{is_text, quoted};
+ghost use Rattle.dy_term.specs.Characters.{is_text, in_quotes};
 ghost use Rattle.dy_term.specs.TermText.{term_text};
 ghost use Rattle.dy_term.specs.TermReading.{is_made, IsTextOf};
 
@@ -63,7 +63,7 @@ fn put_term(alloc: Global, text: &mut Vec<u8>, term: &Term) -> Result<(), AllocE
 
 /// Adds a text between quotes.
 fn put_text(text: &mut Vec<u8>, literal: &Text) -> Result<(), AllocError>
-    ensures text { IfOk result (λ _. text.new.items ≡ text.old.items ++ quoted literal.now) }
+    ensures text { IfOk result (λ _. text.new.items ≡ text.old.items ++ in_quotes literal.now) }
     ensures made { IfOk result (λ _. is_text literal.now ≡ true) }
 {
     text.extend_from_slice(b"\"")?;

@@ -6,7 +6,7 @@ use Rattle.std.proofs.lemmas.List.Folds.{list_all-append}
 use Rattle.std.proofs.lemmas.List.Elements.{filter_map-append}
 use Rattle.dy_label.specs.Labels.{Place, Join, Meet, is_open}
 use Rattle.dy_label.specs.Words.{StaticLabel, Choice, meaning_of, Implies}
-use Rattle.dy_types.specs.Claims.{StaticUse, ClaimOf, Claim, Known, pk_label, vk_label, pk_labels, vk_labels, meet_of, MeetImplies, HasUse, HasPk, HasVk, identified, IsWeaker}
+use Rattle.dy_types.specs.Claims.{StaticUse, ClaimOf, Claim, Known, pk_label, vk_label, pk_labels, vk_labels, meet_of, MeetImplies, HasUse, HasPk, HasVk, identify_with, IsWeaker}
 use Rattle.dy_types.specs.FieldTypes.{Declared, Name, Any, Upto, Secret, Key, Pk, Vk, Fits}
 use Rattle.dy_types.specs.Tables.{is_empty}
 use Rattle.dy_types.proofs.MeetLaws.{and-true, is_empty-append}
@@ -103,9 +103,9 @@ Fits-stronger stronger weaker (Key label usage) h k =
 Fits-stronger stronger weaker (Pk label usage) h k = h.pks label usage k
 Fits-stronger stronger weaker (Vk label usage) h k = h.vks label usage k
 
-pub identified-weaker : (first second weaker_first weaker_second : Known) → IsWeaker first weaker_first → IsWeaker second weaker_second
-    → IsWeaker (identified first second) (identified weaker_first weaker_second)
-identified-weaker first second weaker_first weaker_second h k = record {
+pub identify_with-weaker : (first second weaker_first weaker_second : Known) → IsWeaker first weaker_first → IsWeaker second weaker_second
+    → IsWeaker (identify_with first second) (identify_with weaker_first weaker_second)
+identify_with-weaker first second weaker_first weaker_second h k = record {
   hi = λ choice corruptions opened. elim (or_cases (opens choice corruptions weaker_first.hi) (opens choice corruptions weaker_second.hi) opened) [
     | inl here ↦ or_left (opens choice corruptions first.hi) (opens choice corruptions second.hi) (h.hi choice corruptions here)
     | inr here ↦ or_right (opens choice corruptions first.hi) (opens choice corruptions second.hi) (k.hi choice corruptions here)

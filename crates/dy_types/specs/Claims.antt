@@ -95,8 +95,8 @@ abbrev pub HasVk : Known → StaticLabel → StaticUse → Type 0
 HasVk known label usage = MeetImplies (vk_labels known.claims usage) label
 
 -- the knowledge of two values that are one
-abbrev pub identified : Known → Known → Known
-identified first second = record {
+abbrev pub identify_with : Known → Known → Known
+identify_with first second = record {
   hi = Join first.hi second.hi;
   lo = Meet first.lo second.lo;
   claims = first.claims ++ second.claims;

@@ -43,8 +43,8 @@ declared_claims other guard = []
 
 -- The knowledge of a field of what was opened: who has the key may have the field, and where the guard is open it may
 -- be forged.
-abbrev pub narrowed : Declared → StaticLabel → StaticLabel → Known
-narrowed type hi guard = record {
+abbrev pub narrow_by : Declared → StaticLabel → StaticLabel → Known
+narrow_by type hi guard = record {
   hi = Join (declared_hi type) hi;
   lo = Join (declared_lo type) guard;
   claims = declared_claims type guard;

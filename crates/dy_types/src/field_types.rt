@@ -2,7 +2,7 @@ ghost use Rattle.std.specs.Prelude.{◌↔◌, [], ◌∷◌, IsTrue, IfOk};
 ghost use Rattle.dy_label.specs.Words.{StaticLabel, Implies};
 ghost use Rattle.dy_types.specs.Claims as plain;
 ghost use Rattle.dy_types.specs.FieldTypes as types;
-ghost use Rattle.dy_types.specs.FieldTypes.{declared_hi, declared_lo, declared_claims, narrowed, Fits};
+ghost use Rattle.dy_types.specs.FieldTypes.{declared_hi, declared_lo, declared_claims, narrow_by, Fits};
 ghost use Rattle.dy_types.specs.Meaning as meaning;
 ghost use Rattle.dy_types.specs.Meaning.{claim_of, known_of, type_of};
 ghost use Rattle.dy_types.specs.Tables.{HasTable, ClaimHasTable, ClaimsHaveTables, KnownHasTables, TypeHasTable};
@@ -93,7 +93,7 @@ pub fn narrow(
 ) -> Result<Known, Memory>
     ensures { IfOk result (λ known. (type : types.Declared) (opener forger : StaticLabel) →
         TypeHasTable type (type_of declared.now) → HasTable opener hi.now → HasTable forger guard.now →
-        KnownHasTables (narrowed type opener forger) (known_of known)) }
+        KnownHasTables (narrow_by type opener forger) (known_of known)) }
 {
     Ok(Known {
         hi: join(&declared.hi(), hi),

@@ -2,7 +2,7 @@ ghost use Rattle.std.specs.Prelude.{◌≡◌, ◌↔◌, IsTrue, IfOk};
 ghost use Rattle.dy_label.specs.Labels.{Public, Nobody};
 ghost use Rattle.dy_label.specs.Words as words;
 ghost use Rattle.dy_types.specs.Claims as plain;
-ghost use Rattle.dy_types.specs.Claims.{pk_labels, vk_labels, HasUse, HasPk, HasVk, identified, unknown};
+ghost use Rattle.dy_types.specs.Claims.{pk_labels, vk_labels, HasUse, HasPk, HasVk, identify_with, unknown};
 ghost use Rattle.dy_types.specs.Meaning.{use_of, known_of};
 ghost use Rattle.dy_types.specs.Tables.{HasTable, IsTableOfMeet, KnownHasTables};
 
@@ -24,7 +24,7 @@ pub struct Known {
 }
 
 /// The table of the label that is always open.
-pub(crate) fn public_table() -> Table
+pub fn public_table() -> Table
     ensures { HasTable Public result }
 {
     match Scope::new(1) {
@@ -34,7 +34,7 @@ pub(crate) fn public_table() -> Table
 }
 
 /// The table of the label that is never open.
-pub(crate) fn nobody_table() -> Table
+pub fn nobody_table() -> Table
     ensures { HasTable Nobody result }
 {
     match Scope::new(1) {
@@ -125,7 +125,7 @@ impl Known {
 pub fn identify(alloc: Global, first: &Known, second: &Known) -> Result<Known, Memory>
     ensures { IfOk result (λ one. (a b : plain.Known) →
         KnownHasTables a (known_of first.now) → KnownHasTables b (known_of second.now) →
-        KnownHasTables (identified a b) (known_of one)) }
+        KnownHasTables (identify_with a b) (known_of one)) }
 {
     let mut claims = copy_claims(alloc, first.claims.as_slice())?;
     add_claims(alloc, &mut claims, second.claims.as_slice())?;

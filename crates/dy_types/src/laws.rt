@@ -2,8 +2,8 @@ ghost use Rattle.std.specs.Prelude.{◌≡◌, ◌≢◌, ◌↔◌, true, List,
 ghost use Rattle.std.specs.List.{list_all};
 ghost use Rattle.dy_label.specs.Labels.{Place, is_open};
 ghost use Rattle.dy_label.specs.Words.{StaticLabel, Choice, meaning_of, Implies};
-ghost use Rattle.dy_types.specs.Claims.{StaticUse, Known, HasUse, HasPk, HasVk, MeetImplies, IsWeaker, identified};
-ghost use Rattle.dy_types.specs.FieldTypes.{Declared, Fits, narrowed};
+ghost use Rattle.dy_types.specs.Claims.{StaticUse, Known, HasUse, HasPk, HasVk, MeetImplies, IsWeaker, identify_with};
+ghost use Rattle.dy_types.specs.FieldTypes.{Declared, Fits, narrow_by};
 
 /// A meet of labels implies a label exactly where there are labels and, for every choice of
 /// principals, session and versions for the handler's words, and all corruptions, that label is
@@ -37,10 +37,10 @@ pub fn stronger_knowledge_has_more()
 /// From stronger parts comes stronger knowledge: from a hi that more labels imply, from a guard that
 /// implies more labels, and from stronger knowledge of each of two values that are one.
 pub fn weaker_parts_give_weaker_knowledge()
-    ensures narrowed { (type : Declared) (hi weaker_hi guard weaker_guard : StaticLabel) →
+    ensures narrow_by { (type : Declared) (hi weaker_hi guard weaker_guard : StaticLabel) →
         Implies weaker_hi hi → Implies guard weaker_guard →
-        IsWeaker (narrowed type hi guard) (narrowed type weaker_hi weaker_guard) }
-    ensures identified { (first second weaker_first weaker_second : Known) →
+        IsWeaker (narrow_by type hi guard) (narrow_by type weaker_hi weaker_guard) }
+    ensures identify_with { (first second weaker_first weaker_second : Known) →
         IsWeaker first weaker_first → IsWeaker second weaker_second →
-        IsWeaker (identified first second) (identified weaker_first weaker_second) }
+        IsWeaker (identify_with first second) (identify_with weaker_first weaker_second) }
 {}

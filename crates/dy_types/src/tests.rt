@@ -234,6 +234,12 @@ fn facts_are_found_by_the_values_of_their_variables(rt: HostRuntime) -> Result<(
 }
 
 #[test]
+fn all_may_know_what_is_public(rt: HostRuntime) {
+    assert!(rt; within(&nobody_table(), &public_table()));
+    assert!(rt; !within(&public_table(), &nobody_table()));
+}
+
+#[test]
 fn laws_are_there() {
     what_a_meet_implies();
     weaker_knowledge_is_ordered();

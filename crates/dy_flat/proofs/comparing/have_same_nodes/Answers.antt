@@ -1,7 +1,7 @@
 use Rattle.std.proofs.Common.{◌≡◌, ◌<◌, ◌++◌, ◌∷◌, [], ◌∙◌, Some, map, take, length, get_or, ap, sym, arith}
 use Rattle.std.proofs.lemmas.List.{map_more, take_all}
 use Rattle.dy_flat.specs.declared.flat_nodes.Node.TheVariants as code
-use Rattle.dy_flat.specs.Meaning.{read, read_all, known}
+use Rattle.dy_flat.specs.Meaning.{read, read_all, known_nodes}
 use Rattle.dy_flat.specs.Runs.{run_of, term_of}
 use Rattle.dy_flat.proofs.WholeRuns.{some_at, same_at}
 use Rattle.dy_flat.proofs.comparing.have_same_nodes.Goals as goal
@@ -38,4 +38,4 @@ returns-clause-same c = λ _.
     let at = c.loop-at.at in
     let all_a : take at a.nodes.now ≡ a.nodes.now = take_all at a.nodes.now (omega arith) in
     let all_b : take at b.nodes.now ≡ b.nodes.now = take_all at b.nodes.now (omega arith) in
-    ap (λ nodes. term_of (known nodes)) (ap (read_all a.contents.now) (sym all_a) ∙ c.loop-at.invariant ∙ ap (read_all b.contents.now) all_b)
+    ap (λ nodes. term_of (known_nodes nodes)) (ap (read_all a.contents.now) (sym all_a) ∙ c.loop-at.invariant ∙ ap (read_all b.contents.now) all_b)
