@@ -10,3 +10,4 @@ pub mod Faults
 pub mod FileLaws
 pub mod FileFaults
 pub mod Levels
+pub mod SideBySide

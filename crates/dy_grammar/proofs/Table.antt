@@ -10,7 +10,7 @@ use Rattle.dy_grammar.specs.Words.{is_reserved}
 use Rattle.dy_grammar.specs.Terminals.{Terminal, This, accepts}
 use Rattle.dy_grammar.specs.Tables.{silent, token, part, Takes}
 use Rattle.dy_grammar.specs.Parts.{Item, AnId, ANm, AKind, AUse, AnAtom, AFieldType, AField, ARow, AParam, APartner, APattern, ALabel, AStatement, ADecl, ARound, AStep, AnAction, AnInner, AnExpr, ARecipe, ItemValue, Closing, Parenthesis, Semicolon, Requires, After, Knows, Part, AFile, Decls, TableEnd, LastingOpen, OnArgs, RecvOpen, StartEnd, MsgEnd, One, ManyTo, Commas, MoreTo, ListEnd, MaybeListed, PartValue}
-use Rattle.dy_grammar.specs.Grammar.{Syms, RuleOf, extended, item_rules, rules, left_out}
+use Rattle.dy_grammar.specs.Grammar.{Syms, RuleOf, with_more, item_rules, rules, left_out}
 use Rattle.dy_grammar.specs.Trees.{IsAmong}
 use Rattle.dy_grammar.specs.Mirrors.Machine.{rule_for}
 use Rattle.dy_grammar.specs.Mirrors.Distinct.{may_meet, are_distinct, firsts, opener, may_go_on, may_end_open, starts_closed, is_clear, are_clear}
@@ -78,9 +78,9 @@ item_avoids x =
 -- ---- parts
 
 -- a rule begins with the same token where it is extended
-firsts-extended : {A : Type 0} (X : Type 0) (more : Syms) (f : A → Takes PartValue more X) (rs : List (RuleOf A)) → firsts (map (extended more f) rs) ≡ firsts rs
-firsts-extended X more f [] = refl
-firsts-extended X more f (r ∷ rs) = ap (λ (xs : List Terminal). r.first ∷ xs) (firsts-extended X more f rs)
+firsts-with_more : {A : Type 0} (X : Type 0) (more : Syms) (f : A → Takes PartValue more X) (rs : List (RuleOf A)) → firsts (map (with_more more f) rs) ≡ firsts rs
+firsts-with_more X more f [] = refl
+firsts-with_more X more f (r ∷ rs) = ap (λ (xs : List Terminal). r.first ∷ xs) (firsts-with_more X more f rs)
 
 -- no two rules of a part begin with the same token
 distinct : (p : Part) → are_distinct (firsts (rules p)) ≡ true
@@ -94,8 +94,8 @@ distinct RecvOpen = refl
 distinct StartEnd = refl
 distinct MsgEnd = refl
 distinct (One x) = item_is_distinct x
-distinct (ManyTo x) = rw (firsts-extended (List (ItemValue x)) (part (ManyTo x) ∷ []) (λ v vs. v ∷ vs) (item_rules x)) (and_from _ _ (item_avoids x).brace (item_is_distinct x))
-distinct (Commas x) = rw (firsts-extended (List (ItemValue x)) (part (MoreTo Parenthesis x) ∷ []) (λ v vs. v ∷ vs) (item_rules x)) (and_from _ _ (item_avoids x).parenthesis (item_is_distinct x))
+distinct (ManyTo x) = rw (firsts-with_more (List (ItemValue x)) (part (ManyTo x) ∷ []) (λ v vs. v ∷ vs) (item_rules x)) (and_from _ _ (item_avoids x).brace (item_is_distinct x))
+distinct (Commas x) = rw (firsts-with_more (List (ItemValue x)) (part (MoreTo Parenthesis x) ∷ []) (λ v vs. v ∷ vs) (item_rules x)) (and_from _ _ (item_avoids x).parenthesis (item_is_distinct x))
 distinct (MoreTo Parenthesis x) = refl
 distinct (MoreTo Semicolon x) = refl
 distinct (ListEnd Requires x) = refl
@@ -128,17 +128,17 @@ may_end_open-append before (silent x ∷ ss) q = may_end_open-append false ss q
 may_end_open-append before (token x ∷ ss) q = may_end_open-append false ss q
 may_end_open-append before (part p ∷ ss) q = may_end_open-append (may_go_on p) ss q
 
-are_clear-extended : {A : Type 0} (X : Type 0) (goes_on : Bool) (q : Part) (f : A → PartValue q → X) (rs : List (RuleOf A)) → starts_closed q ≡ true → may_go_on q ≡ false → are_clear goes_on rs ≡ true → are_clear false (map (extended (part q ∷ []) f) rs) ≡ true
-are_clear-extended X goes_on q f [] closed ends clear = refl
-are_clear-extended X goes_on q f (r ∷ rs) closed ends clear =
+are_clear-with_more : {A : Type 0} (X : Type 0) (goes_on : Bool) (q : Part) (f : A → PartValue q → X) (rs : List (RuleOf A)) → starts_closed q ≡ true → may_go_on q ≡ false → are_clear goes_on rs ≡ true → are_clear false (map (with_more (part q ∷ []) f) rs) ≡ true
+are_clear-with_more X goes_on q f [] closed ends clear = refl
+are_clear-with_more X goes_on q f (r ∷ rs) closed ends clear =
     let parts = and_parts (is_clear false r.more && (not (may_end_open false r.more) || goes_on)) (are_clear goes_on rs) clear in
     let inside = and_parts (is_clear false r.more) _ parts.0 in
     let open_ : may_end_open false (r.more ++ part q ∷ []) ≡ false = may_end_open-append false r.more q ∙ ends in
-    and_from _ _ (and_from _ _ (clear-append false r.more q inside.0 closed) (rw open_)) (are_clear-extended X goes_on q f rs closed ends parts.1)
+    and_from _ _ (and_from _ _ (clear-append false r.more q inside.0 closed) (rw open_)) (are_clear-with_more X goes_on q f rs closed ends parts.1)
 
 items_start_closed : (x : Item) → starts_closed (ManyTo x) ≡ true
 unfolding rules
-items_start_closed x = rw (firsts-extended (List (ItemValue x)) (part (ManyTo x) ∷ []) (λ v vs. v ∷ vs) (item_rules x)) (item_avoids x).opening
+items_start_closed x = rw (firsts-with_more (List (ItemValue x)) (part (ManyTo x) ∷ []) (λ v vs. v ∷ vs) (item_rules x)) (item_avoids x).opening
 
 decls_start_closed : starts_closed Decls ≡ true
 unfolding rules item_rules is_reserved
@@ -156,7 +156,7 @@ or-true false = refl
 part_is_clear : (p : Part) → are_clear (may_go_on p) (rules p) ≡ true
 unfolding rules
 part_is_clear AFile = refl
-part_is_clear Decls = are_clear-extended (PartValue Decls) false Decls (λ decl ds. (decl ∷ ds.0, ds.1)) (item_rules ADecl) decls_start_closed refl (item_is_clear ADecl)
+part_is_clear Decls = are_clear-with_more (PartValue Decls) false Decls (λ decl ds. (decl ∷ ds.0, ds.1)) (item_rules ADecl) decls_start_closed refl (item_is_clear ADecl)
 part_is_clear TableEnd = refl
 part_is_clear LastingOpen = refl
 part_is_clear OnArgs = refl
@@ -164,8 +164,8 @@ part_is_clear RecvOpen = refl
 part_is_clear StartEnd = refl
 part_is_clear MsgEnd = refl
 part_is_clear (One x) = item_is_clear x
-part_is_clear (ManyTo x) = are_clear-extended (List (ItemValue x)) (may_go_on (One x)) (ManyTo x) (λ v vs. v ∷ vs) (item_rules x) (items_start_closed x) refl (item_is_clear x)
-part_is_clear (Commas x) = are_clear-extended (List (ItemValue x)) (may_go_on (One x)) (MoreTo Parenthesis x) (λ v vs. v ∷ vs) (item_rules x) (more_start_closed Parenthesis x) refl (item_is_clear x)
+part_is_clear (ManyTo x) = are_clear-with_more (List (ItemValue x)) (may_go_on (One x)) (ManyTo x) (λ v vs. v ∷ vs) (item_rules x) (items_start_closed x) refl (item_is_clear x)
+part_is_clear (Commas x) = are_clear-with_more (List (ItemValue x)) (may_go_on (One x)) (MoreTo Parenthesis x) (λ v vs. v ∷ vs) (item_rules x) (more_start_closed Parenthesis x) refl (item_is_clear x)
 part_is_clear (MoreTo Parenthesis x) = rw (or-true (may_go_on (One x)))
 part_is_clear (MoreTo Semicolon x) = rw (or-true (may_go_on (One x)))
 part_is_clear (ListEnd w x) = rw (or-true (may_go_on (One x)))

@@ -17,6 +17,7 @@ use Rattle.dy_syntax.specs.Plans as p
 use Rattle.dy_syntax.specs.Plans.{OnStep, Action, Step, Round, Plan}
 use Rattle.dy_syntax.specs.Files as f
 use Rattle.dy_syntax.specs.Files.{Decl, File}
+use Rattle.dy_grammar.specs.declared.limits.TheConstants.{TOO_DEEP}
 use Rattle.dy_grammar.specs.Terminals.{This, AName, AText, ANumber}
 use Rattle.dy_grammar.specs.Tables.{Sym, silent, token, part, Takes, Rule, rule, followed_by}
 use Rattle.dy_grammar.specs.Parts.{Item, AnId, ANm, AKind, AUse, AnAtom, AFieldType, AField, ARow, AParam, APartner, APattern, ALabel, AStatement, ADecl, ARound, AStep, AnAction, AnInner, AnExpr, ARecipe, ItemValue, Closing, Parenthesis, Semicolon, Listing, Requires, After, Knows, Part, AFile, Decls, TableEnd, LastingOpen, OnArgs, RecvOpen, StartEnd, MsgEnd, One, ManyTo, Commas, MoreTo, ListEnd, MaybeListed, PartValue}
@@ -89,8 +90,8 @@ abbrev pub opens : {X : Type 0} (m : List ℕ) (more : Syms) → (ℕ → Takes 
 opens m more make = rule (This Symbol m) more make
 
 -- a rule, and then these symbols
-abbrev pub extended : {A X : Type 0} → (more : Syms) → (A → Takes PartValue more X) → RuleOf A → RuleOf X
-extended {A = A} {X = X} more make r = rule r.first (r.more ++ more)
+abbrev pub with_more : {A X : Type 0} → (more : Syms) → (A → Takes PartValue more X) → RuleOf A → RuleOf X
+with_more {A = A} {X = X} more make r = rule r.first (r.more ++ more)
     (λ k. followed_by PartValue A X r.more more (r.make k) make)
 
 -- ---- names, usages and events
@@ -124,13 +125,13 @@ atom_rules = rule AName (left_paren ∷ commas ANm ∷ []) (λ event args. recor
 abbrev pub two : Item → Syms
 two x = left_paren ∷ one x ∷ comma ∷ one x ∷ right_paren ∷ []
 
--- One level deeper. Past 64 the levels are not told apart.
+-- One level deeper. Past MAX_LEVEL the levels are not told apart.
 abbrev pub deeper : ℕ → ℕ
-deeper level = if nat_lt level 65 then level + 1 else 65
+deeper level = if nat_lt level TOO_DEEP then level + 1 else TOO_DEEP
 
--- of a part past level 64 only its place is kept
+-- of a part past level MAX_LEVEL only its place is kept
 abbrev pub within : {X : Type 0} → ℕ → X → X → X
-within level x too_deep = if nat_lt level 65 then x else too_deep
+within level x too_deep = if nat_lt level TOO_DEEP then x else too_deep
 
 abbrev pub label_at : ℕ → ℕ → LabelText → LabelText
 label_at level line label = within level label (l.Nobody line)
@@ -279,7 +280,7 @@ param_rules =
 
 -- an event, and the label after `unless`
 abbrev pub partner_rules : Rules APartner
-partner_rules = map (extended (word (codes "unless") ∷ one (AnInner 1) ∷ [])
+partner_rules = map (with_more (word (codes "unless") ∷ one (AnInner 1) ∷ [])
     (λ atom label. record { atom = atom; unless = label })) atom_rules
 
 abbrev pub declares_usage : RuleOf (ItemValue ADecl)
@@ -568,7 +569,7 @@ rules Decls =
     opens end_of_input [] (λ line. ([], record { rounds = [] })) ∷
     starts (codes "plan") (left_brace ∷ part (ManyTo ARound) ∷ mark end_of_input ∷ [])
     (λ line rounds. ([], record { rounds = rounds })) ∷
-    map (extended (part Decls ∷ []) (λ decl ds. (decl ∷ ds.0, ds.1))) (item_rules ADecl)
+    map (with_more (part Decls ∷ []) (λ decl ds. (decl ∷ ds.0, ds.1))) (item_rules ADecl)
 -- a table or none, and `;`
 rules TableEnd =
     opens (codes ";") [] (λ line. []) ∷
@@ -604,10 +605,10 @@ rules MsgEnd =
 rules (One x) = item_rules x
 -- items up to `}`
 rules (ManyTo x) = opens (codes "}") []
-    (λ line. []) ∷ map (extended (part (ManyTo x) ∷ []) (λ v vs. v ∷ vs)) (item_rules x)
+    (λ line. []) ∷ map (with_more (part (ManyTo x) ∷ []) (λ v vs. v ∷ vs)) (item_rules x)
 -- items with commas between them, and `)`
 rules (Commas x) = opens (codes ")") []
-    (λ line. []) ∷ map (extended (part (MoreTo Parenthesis x) ∷ []) (λ v vs. v ∷ vs)) (item_rules x)
+    (λ line. []) ∷ map (with_more (part (MoreTo Parenthesis x) ∷ []) (λ v vs. v ∷ vs)) (item_rules x)
 -- items with a comma before each, and what ends them
 rules (MoreTo end x) =
     opens (closing end) [] (λ line. []) ∷

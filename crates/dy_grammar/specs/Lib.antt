@@ -4,5 +4,6 @@ pub mod Tables
 pub mod Parts
 pub mod Grammar
 pub mod Trees
+pub mod Levels
 pub mod Files
 pub mod Mirrors

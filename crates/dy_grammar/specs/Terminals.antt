@@ -4,6 +4,8 @@ use Rattle.std.specs.Char.{is_ascii_digit}
 use Rattle.std.specs.List.{list_all}
 use Rattle.std.specs.Str.{bytes_eq}
 use Rattle.dy_term.specs.Characters.{is_long_word, is_long_text}
+use Rattle.dy_term.specs.declared.limits.TheConstants.{MAX_LENGTH}
+use Rattle.dy_lex.specs.declared.limits.TheConstants.{MAX_DIGITS}
 use Rattle.dy_lex.specs.declared.tokens.TokenKind.{TokenKind}
 use Rattle.dy_lex.specs.declared.tokens.TokenKind.TheVariants.{Word, Number, Text, Symbol}
 use Rattle.dy_lex.specs.Tokens.{Piece}
@@ -29,12 +31,12 @@ abbrev pub is_free_word : List ℕ → Bool
 is_free_word word = is_long_word word && not (is_reserved word)
 
 -- the bytes between the quotes
-abbrev pub unquoted : List ℕ → List ℕ
-unquoted text = take (length text - 2) (drop 1 text)
+abbrev pub text_inside : List ℕ → List ℕ
+text_inside text = take (length text - 2) (drop 1 text)
 
--- at most six digits
+-- at most MAX_DIGITS digits
 abbrev pub is_short_number : List ℕ → Bool
-is_short_number digits = nat_le (length digits) 6 && list_all is_ascii_digit digits
+is_short_number digits = nat_le (length digits) MAX_DIGITS && list_all is_ascii_digit digits
 
 abbrev pub number_of : List ℕ → ℕ
 number_of digits = fold (λ n digit. 10 * n + (digit - 48)) 0 digits
@@ -43,7 +45,7 @@ number_of digits = fold (λ n digit. 10 * n + (digit - 48)) 0 digits
 abbrev pub accepts : Terminal → Piece → Bool
 accepts (This kind text) token = same_kind token.kind kind && bytes_eq token.text text
 accepts AName token = same_kind token.kind Word && is_free_word token.text
-accepts AText token = same_kind token.kind Text && is_long_text (unquoted token.text)
+accepts AText token = same_kind token.kind Text && is_long_text (text_inside token.text)
 accepts ANumber token = same_kind token.kind Number && is_short_number token.text
 
 -- what is kept of a token
@@ -53,9 +55,9 @@ TokenValue AName = Id
 TokenValue AText = Quote
 TokenValue ANumber = ℕ
 
--- the line of a token, the first 32 bytes of a word or a text, and a number
+-- the line of a token, the first MAX_LENGTH bytes of a word or a text, and a number
 abbrev pub token_value : (x : Terminal) → Piece → TokenValue x
 token_value (This kind text) token = token.line
-token_value AName token = record { word = take 32 token.text; line = token.line }
-token_value AText token = record { text = take 32 (unquoted token.text); line = token.line }
+token_value AName token = record { word = take MAX_LENGTH token.text; line = token.line }
+token_value AText token = record { text = take MAX_LENGTH (text_inside token.text); line = token.line }
 token_value ANumber token = number_of token.text

@@ -3,8 +3,8 @@ use Rattle.std.specs.Prelude.{ℕ, Bool, List, [], ◌∷◌, codes}
 use Rattle.std.specs.List.{list_any}
 use Rattle.std.specs.Str.{bytes_eq}
 
-abbrev pub reserved : List (List ℕ)
-reserved =
+abbrev pub reserved_words : List (List ℕ)
+reserved_words =
     codes "dystar" ∷ codes "usage" ∷ codes "case" ∷ codes "requires" ∷ codes "event" ∷ codes "after" ∷
     codes "unless" ∷ codes "state" ∷ codes "lasting" ∷ codes "knows" ∷ codes "handler" ∷ codes "on" ∷
     codes "args" ∷ codes "recv" ∷ codes "new" ∷ codes "secret" ∷ codes "let" ∷ codes "send" ∷
@@ -19,4 +19,4 @@ reserved =
     codes "fst" ∷ codes "snd" ∷ codes "pdec" ∷ codes "adec" ∷ codes "body" ∷ []
 
 unfoldable pub is_reserved : List ℕ → Bool
-is_reserved word = list_any (λ r. bytes_eq r word) reserved
+is_reserved word = list_any (λ r. bytes_eq r word) reserved_words

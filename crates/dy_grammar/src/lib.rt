@@ -2,5 +2,7 @@
 #![tactic(auto)]
 
 mod laws;
+mod limits;
 
 pub use laws::{one_fault, one_file};
+pub use limits::{MAX_LEVEL, TOO_DEEP};

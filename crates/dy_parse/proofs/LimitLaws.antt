@@ -1,3 +1,4 @@
 pub mod Folds
 pub mod Rows
 pub mod Least
+pub mod Alike

@@ -5,15 +5,15 @@ use Rattle.std.specs.Str.{bytes_eq}
 use Rattle.std.proofs.lemmas.Map.Views.{any-filter_same}
 use Rattle.std.proofs.lemmas.Slice.Eq.{bytes_eq-Decides}
 use Rattle.std.proofs.lemmas.Bool.{eq-eqb, leb-true}
-use Rattle.dy_grammar.specs.Words.{reserved, is_reserved}
+use Rattle.dy_grammar.specs.Words.{reserved_words, is_reserved}
 
 -- a test that looks at nothing but the word, over all reserved words
-among_these : (p : List ℕ → Bool) (word : List ℕ) → list_any (λ r. bytes_eq r word) (filter p reserved) ≡ (p word && is_reserved word)
+among_these : (p : List ℕ → Bool) (word : List ℕ) → list_any (λ r. bytes_eq r word) (filter p reserved_words) ≡ (p word && is_reserved word)
 unfolding is_reserved
-among_these p word = any-filter_same (λ r. bytes_eq r word) p (p word) (λ r found. ap p ((bytes_eq-Decides r word).0 found)) reserved
+among_these p word = any-filter_same (λ r. bytes_eq r word) p (p word) (λ r found. ap p ((bytes_eq-Decides r word).0 found)) reserved_words
 
 -- those of its own length are enough
-pub by_length : (n : ℕ) (word : List ℕ) → length word ≡ n → is_reserved word ≡ list_any (λ r. bytes_eq r word) (filter (λ r. nat_eq (length r) n) reserved)
+pub by_length : (n : ℕ) (word : List ℕ) → length word ≡ n → is_reserved word ≡ list_any (λ r. bytes_eq r word) (filter (λ r. nat_eq (length r) n) reserved_words)
 by_length n word same =
     sym (among_these (λ r. nat_eq (length r) n) word ∙ ap (λ (b : Bool). b && is_reserved word) (eq-eqb (length word) n same))
 

@@ -1,4 +1,3 @@
-pub mod Small
 pub mod Mirrors
 pub mod Limits
 pub mod Reading

@@ -3,10 +3,12 @@ use Rattle.std.specs.Prelude.{◌≡◌, ℕ, ◌-◌, ◌≤◌, ◌==◌, ◌�
 use Rattle.std.specs.List.{flat_map, list_any}
 use Rattle.std.specs.Option.{option_to_list}
 use Rattle.std.specs.Str.{bytes_eq}
+use Rattle.dy_term.specs.declared.limits.TheConstants.{MAX_LENGTH}
 use Rattle.dy_lex.specs.declared.tokens.TokenKind.{TokenKind}
 use Rattle.dy_lex.specs.declared.tokens.TokenKind.TheVariants as kinds
 use Rattle.dy_lex.specs.Tokens.{Piece}
-use Rattle.dy_grammar.specs.Terminals.{unquoted}
+use Rattle.dy_grammar.specs.declared.limits.TheConstants.{MAX_LEVEL}
+use Rattle.dy_grammar.specs.Terminals.{text_inside}
 use Rattle.dy_syntax.specs.Names.{Id, UseText, AtomText, line_of}
 use Rattle.dy_syntax.specs.Labels as l
 use Rattle.dy_syntax.specs.Labels.{LabelText}
@@ -49,9 +51,9 @@ number Principals = 17
 
 -- how many members a list may have
 abbrev pub most : LimitName → ℕ
-most Word = 32
-most Text = 32
-most Nesting = 64
+most Word = MAX_LENGTH
+most Text = MAX_LENGTH
+most Nesting = MAX_LEVEL
 most Usages = 256
 most Cases = 1024
 most Events = 256
@@ -87,7 +89,7 @@ lines_of_bytes line bytes = map (λ b. line) bytes
 abbrev pub excess_by_kind : TokenKind → Piece → List Excess
 excess_by_kind kinds.Word token = counts Word (lines_of_bytes token.line token.text)
 excess_by_kind kinds.Number token = []
-excess_by_kind kinds.Text token = counts Text (lines_of_bytes token.line (unquoted token.text))
+excess_by_kind kinds.Text token = counts Text (lines_of_bytes token.line (text_inside token.text))
 excess_by_kind kinds.Symbol token = []
 
 abbrev pub excess_in_token : Piece → List Excess
@@ -108,8 +110,8 @@ excess_in_atom atom = counts_fields line_of atom.args
 -- the place is kept.
 
 -- something on this line, and what is inside
-abbrev pub nested : ℕ → ℕ → List Excess → List Excess
-nested room line inside = if room == 0 then breaks Nesting (line ∷ []) else inside
+abbrev pub on_level : ℕ → ℕ → List Excess → List Excess
+on_level room line inside = if room == 0 then breaks Nesting (line ∷ []) else inside
 
 -- the words of a label
 abbrev pub leaves : LabelText → List ℕ
@@ -137,11 +139,11 @@ label_line (l.Meet line left right) = line
 
 abbrev pub inside_label : ℕ → LabelText → List Excess
 inside_label room (l.Join line left right) =
-    nested room (label_line left) (inside_label (room - 1) left)
-    ++ nested room (label_line right) (inside_label (room - 1) right)
+    on_level room (label_line left) (inside_label (room - 1) left)
+    ++ on_level room (label_line right) (inside_label (room - 1) right)
 inside_label room (l.Meet line left right) =
-    nested room (label_line left) (inside_label (room - 1) left)
-    ++ nested room (label_line right) (inside_label (room - 1) right)
+    on_level room (label_line left) (inside_label (room - 1) left)
+    ++ on_level room (label_line right) (inside_label (room - 1) right)
 inside_label room (l.Public line) = []
 inside_label room (l.Nobody line) = []
 inside_label room (l.Session line) = []
@@ -152,7 +154,7 @@ inside_label room (l.One name) = []
 
 -- a label, where so many may still stand inside each other
 abbrev pub label_within : ℕ → LabelText → List Excess
-label_within room label = nested room (label_line label) (inside_label (room - 1) label)
+label_within room label = on_level room (label_line label) (inside_label (room - 1) label)
 
 abbrev pub excess_in_label : LabelText → List Excess
 excess_in_label label = counts Leaves (leaves label) ++ label_within (most Nesting) label
@@ -166,27 +168,27 @@ abbrev mutual
   inside_expr room (e.Lit quote) = []
   inside_expr room (e.Tuple tag args) = counts_args args ++ inside_args room args
   inside_expr room (e.Pair line first second) =
-      nested room (e.line_of first) (inside_expr (room - 1) first)
-      ++ nested room (e.line_of second) (inside_expr (room - 1) second)
+      on_level room (e.line_of first) (inside_expr (room - 1) first)
+      ++ on_level room (e.line_of second) (inside_expr (room - 1) second)
   inside_expr room (e.Pk line key) = []
   inside_expr room (e.Vk line key) = []
   inside_expr room (e.Penc line key usage tag args) = excess_in_use usage ++ counts_args args ++ inside_args room args
   inside_expr room (e.Aead line key usage tag args ad) =
       excess_in_use usage ++ counts_args args ++ inside_args room args
-      ++ nested room (e.line_of ad) (inside_expr (room - 1) ad)
+      ++ on_level room (e.line_of ad) (inside_expr (room - 1) ad)
   inside_expr room (e.Sign line key usage tag args) = excess_in_use usage ++ counts_args args ++ inside_args room args
   inside_expr room (e.Mac line key usage tag args) = excess_in_use usage ++ counts_args args ++ inside_args room args
-  inside_expr room (e.Kdf line key context input) = nested room (e.line_of input) (inside_expr (room - 1) input)
-  inside_expr room (e.Hash line message) = nested room (e.line_of message) (inside_expr (room - 1) message)
+  inside_expr room (e.Kdf line key context input) = on_level room (e.line_of input) (inside_expr (room - 1) input)
+  inside_expr room (e.Hash line message) = on_level room (e.line_of message) (inside_expr (room - 1) message)
 
   pub inside_args : ℕ → Exprs → List Excess
   inside_args room e.Nil = []
   inside_args room (e.Cons first rest) =
-      nested room (e.line_of first) (inside_expr (room - 1) first) ++ inside_args room rest
+      on_level room (e.line_of first) (inside_expr (room - 1) first) ++ inside_args room rest
 
 -- an expression, where so many may still stand inside each other
 abbrev pub expr_within : ℕ → Expr → List Excess
-expr_within room expr = nested room (e.line_of expr) (inside_expr (room - 1) expr)
+expr_within room expr = on_level room (e.line_of expr) (inside_expr (room - 1) expr)
 
 abbrev pub excess_in_expr : Expr → List Excess
 excess_in_expr expr = expr_within (most Nesting) expr
@@ -226,46 +228,46 @@ abbrev mutual
   inside_recipe room (r.Nonce line step) = []
   inside_recipe room (r.Field line step version number) = []
   inside_recipe room (r.Pair line a b) =
-      nested room (recipe_line a) (inside_recipe (room - 1) a)
-      ++ nested room (recipe_line b) (inside_recipe (room - 1) b)
-  inside_recipe room (r.Pk line a) = nested room (recipe_line a) (inside_recipe (room - 1) a)
-  inside_recipe room (r.Vk line a) = nested room (recipe_line a) (inside_recipe (room - 1) a)
+      on_level room (recipe_line a) (inside_recipe (room - 1) a)
+      ++ on_level room (recipe_line b) (inside_recipe (room - 1) b)
+  inside_recipe room (r.Pk line a) = on_level room (recipe_line a) (inside_recipe (room - 1) a)
+  inside_recipe room (r.Vk line a) = on_level room (recipe_line a) (inside_recipe (room - 1) a)
   inside_recipe room (r.Penc line a b) =
-      nested room (recipe_line a) (inside_recipe (room - 1) a)
-      ++ nested room (recipe_line b) (inside_recipe (room - 1) b)
+      on_level room (recipe_line a) (inside_recipe (room - 1) a)
+      ++ on_level room (recipe_line b) (inside_recipe (room - 1) b)
   inside_recipe room (r.Aead line a b c) =
-      nested room (recipe_line a) (inside_recipe (room - 1) a)
-      ++ nested room (recipe_line b) (inside_recipe (room - 1) b)
-      ++ nested room (recipe_line c) (inside_recipe (room - 1) c)
+      on_level room (recipe_line a) (inside_recipe (room - 1) a)
+      ++ on_level room (recipe_line b) (inside_recipe (room - 1) b)
+      ++ on_level room (recipe_line c) (inside_recipe (room - 1) c)
   inside_recipe room (r.Sign line a b) =
-      nested room (recipe_line a) (inside_recipe (room - 1) a)
-      ++ nested room (recipe_line b) (inside_recipe (room - 1) b)
+      on_level room (recipe_line a) (inside_recipe (room - 1) a)
+      ++ on_level room (recipe_line b) (inside_recipe (room - 1) b)
   inside_recipe room (r.Mac line a b) =
-      nested room (recipe_line a) (inside_recipe (room - 1) a)
-      ++ nested room (recipe_line b) (inside_recipe (room - 1) b)
+      on_level room (recipe_line a) (inside_recipe (room - 1) a)
+      ++ on_level room (recipe_line b) (inside_recipe (room - 1) b)
   inside_recipe room (r.Kdf line a context b) =
-      nested room (recipe_line a) (inside_recipe (room - 1) a)
-      ++ nested room (recipe_line b) (inside_recipe (room - 1) b)
-  inside_recipe room (r.Hash line a) = nested room (recipe_line a) (inside_recipe (room - 1) a)
-  inside_recipe room (r.Fst line a) = nested room (recipe_line a) (inside_recipe (room - 1) a)
-  inside_recipe room (r.Snd line a) = nested room (recipe_line a) (inside_recipe (room - 1) a)
+      on_level room (recipe_line a) (inside_recipe (room - 1) a)
+      ++ on_level room (recipe_line b) (inside_recipe (room - 1) b)
+  inside_recipe room (r.Hash line a) = on_level room (recipe_line a) (inside_recipe (room - 1) a)
+  inside_recipe room (r.Fst line a) = on_level room (recipe_line a) (inside_recipe (room - 1) a)
+  inside_recipe room (r.Snd line a) = on_level room (recipe_line a) (inside_recipe (room - 1) a)
   inside_recipe room (r.Pdec line a b) =
-      nested room (recipe_line a) (inside_recipe (room - 1) a)
-      ++ nested room (recipe_line b) (inside_recipe (room - 1) b)
+      on_level room (recipe_line a) (inside_recipe (room - 1) a)
+      ++ on_level room (recipe_line b) (inside_recipe (room - 1) b)
   inside_recipe room (r.Adec line a b) =
-      nested room (recipe_line a) (inside_recipe (room - 1) a)
-      ++ nested room (recipe_line b) (inside_recipe (room - 1) b)
-  inside_recipe room (r.Ad line a) = nested room (recipe_line a) (inside_recipe (room - 1) a)
-  inside_recipe room (r.Body line a) = nested room (recipe_line a) (inside_recipe (room - 1) a)
+      on_level room (recipe_line a) (inside_recipe (room - 1) a)
+      ++ on_level room (recipe_line b) (inside_recipe (room - 1) b)
+  inside_recipe room (r.Ad line a) = on_level room (recipe_line a) (inside_recipe (room - 1) a)
+  inside_recipe room (r.Body line a) = on_level room (recipe_line a) (inside_recipe (room - 1) a)
 
   pub inside_recipes : ℕ → Recipes → List Excess
   inside_recipes room r.Nil = []
   inside_recipes room (r.Cons first rest) =
-      nested room (recipe_line first) (inside_recipe (room - 1) first) ++ inside_recipes room rest
+      on_level room (recipe_line first) (inside_recipe (room - 1) first) ++ inside_recipes room rest
 
 -- a recipe, where so many may still stand inside each other
 abbrev pub recipe_within : ℕ → RecipeText → List Excess
-recipe_within room recipe = nested room (recipe_line recipe) (inside_recipe (room - 1) recipe)
+recipe_within room recipe = on_level room (recipe_line recipe) (inside_recipe (room - 1) recipe)
 
 -- ---- declarations
 
@@ -428,16 +430,16 @@ excess_in_plan rounds =
 -- ---- files
 
 -- the line of a declaration, if it is of this sort
-abbrev pub declared : LimitName → Decl → List ℕ
-declared Usages (f.Usage usage) = usage.line ∷ []
-declared Cases (f.Case case) = case.line ∷ []
-declared Events (f.Event event) = event.line ∷ []
-declared States (f.State state) = state.line ∷ []
-declared Handlers (f.Handler handler) = handler.line ∷ []
-declared _ _ = []
+abbrev pub lines_of_sort : LimitName → Decl → List ℕ
+lines_of_sort Usages (f.Usage usage) = usage.line ∷ []
+lines_of_sort Cases (f.Case case) = case.line ∷ []
+lines_of_sort Events (f.Event event) = event.line ∷ []
+lines_of_sort States (f.State state) = state.line ∷ []
+lines_of_sort Handlers (f.Handler handler) = handler.line ∷ []
+lines_of_sort _ _ = []
 
 abbrev pub counts_declared : LimitName → List Decl → List Excess
-counts_declared sort decls = counts sort (flat_map (declared sort) decls)
+counts_declared sort decls = counts sort (flat_map (lines_of_sort sort) decls)
 
 abbrev pub excess_in_file : File → List Excess
 excess_in_file file =
@@ -449,14 +451,18 @@ excess_in_file file =
     ++ flat_map excess_in_decl file.decls
     ++ excess_in_plan file.plan.rounds
 
--- all that tokens and their file have too much of
-abbrev pub excess_in : File → List Piece → List Excess
-excess_in file tokens = flat_map excess_in_token tokens ++ excess_in_file file
-
 -- it stands in the list
 abbrev pub IsIn : {X : Type 0} → X → List X → Type 0
 IsIn x [] = ⊥
 IsIn x (y ∷ ys) = (y ≡ x) ⊎ IsIn x ys
+
+-- the file breaks this limit on this line, whatever its tokens
+abbrev pub FileBreaks : LimitName → ℕ → File → Type 0
+FileBreaks which line file = IsIn (record { which = which; line = line }) (excess_in_file file)
+
+-- all that tokens and their file have too much of
+abbrev pub excess_in : File → List Piece → List Excess
+excess_in file tokens = flat_map excess_in_token tokens ++ excess_in_file file
 
 -- the file breaks this limit on this line
 abbrev pub BreaksLimit : LimitName → ℕ → File → List Piece → Type 0

@@ -1,5 +1,5 @@
 -- When bytes are a protocol file, and why they are none.
-use Rattle.std.specs.Prelude.{◌≡◌, ℕ, ◌≤◌, ◌⊎◌, List, length}
+use Rattle.std.specs.Prelude.{ℕ, ◌≤◌, ◌⊎◌, List, length}
 use Rattle.dy_lex.specs.declared.limits.TheConstants.{MAX_SOURCE_BYTES}
 use Rattle.dy_lex.specs.Tokens.{Piece, Spells, IsFaulty}
 use Rattle.dy_syntax.specs.Files.{File}

@@ -15,6 +15,7 @@ use crate::words::is_reserved;
 use dy_lex::{Token, TokenKind};
 use dy_syntax::{Id, Quote};
 use dy_term::characters::{is_long_text, is_long_word};
+use dy_term::limits::MAX_LENGTH;
 use dy_term::{Text, Word};
 use std::alloc::{AllocError, AllocFailed};
 use std::marker::Model;
@@ -202,7 +203,7 @@ pub(crate) fn is_free_word(token: &Token<'_>) -> bool
 pub(crate) fn is_text(token: &Token<'_>) -> bool
     ensures { result ≡ accepts AText (piece_of token.now) }
 {
-    token.kind == TokenKind::Text && is_long_text(unquoted(token.text))
+    token.kind == TokenKind::Text && is_long_text(text_inside(token.text))
 }
 
 /// Whether the token is a number.
@@ -234,7 +235,7 @@ pub(crate) fn name_of(token: &Token<'_>) -> Option<Id>
 pub(crate) fn text_of(token: &Token<'_>) -> Option<Quote>
     ensures { option_map quote_of result ≡ token_value_if AText (piece_of token.now) }
 {
-    let inner = unquoted(token.text);
+    let inner = text_inside(token.text);
     if token.kind != TokenKind::Text || !is_long_text(inner) {
         return None;
     }
@@ -276,16 +277,16 @@ fn value_of(digits: &[u8]) -> u32
     number
 }
 
-/// The first 32 bytes.
+/// The first MAX_LENGTH bytes.
 fn prefix(bytes: &[u8]) -> &[u8]
-    ensures { result.now ≡ take 32 bytes.now }
+    ensures { result.now ≡ take MAX_LENGTH bytes.now }
 {
-    &bytes[..bytes.len().min(32)]
+    &bytes[..bytes.len().min(MAX_LENGTH)]
 }
 
 /// The bytes between two quotes.
-pub(crate) fn unquoted(text: &[u8]) -> &[u8]
-    ensures { result.now ≡ terminals.unquoted text.now }
+pub(crate) fn text_inside(text: &[u8]) -> &[u8]
+    ensures { result.now ≡ terminals.text_inside text.now }
 {
     match text {
         [_, inner @ .., _] => inner,

@@ -8,12 +8,13 @@ ghost use Rattle.dy_grammar.specs.Grammar as table;
 ghost use Rattle.dy_grammar.specs.Parts.{One, Commas, MaybeListed, AnExpr};
 ghost use Rattle.dy_grammar.specs.Mirrors.Machine.{at, after_first, built, by_these, syms_at};
 ghost use Rattle.dy_parse.specs.Mirrors.Gives.{Gives};
-ghost use Rattle.dy_parse.specs.Mirrors.Lists.{prefixed, rest_at, next_at};
+ghost use Rattle.dy_parse.specs.Mirrors.Lists.{with_prefix, rest_at, next_at};
 ghost use Rattle.dy_parse.specs.declared.lists.Rest.TheVariants as rests;
 
 use crate::cursor::{Cursor, Fault, is_word, text_of};
 use crate::names::{nm, use_text};
-use crate::skipping::{Due, TOO_DEEP, skip_over};
+use crate::skipping::{Due, skip_over};
+use dy_grammar::TOO_DEEP;
 use dy_syntax::{Expr, Nm, Quote, Tuple, UseText};
 use dy_term::Text;
 use std::alloc::Global;
@@ -21,7 +22,7 @@ use std::alloc::Global;
 /// An expression too deep to be built: only its place is kept.
 #[tactic(auto, using(crate::proofs::Grammars::Deep::deep_exprs))]
 fn deep_expr<'a>(alloc: Global, tokens: &Cursor<'a>) -> Result<(Expr, Cursor<'a>), Fault>
-    ensures { Gives (λ x. (expr_of x.0, x.1)) result (at (One (AnExpr 65)) tokens.now) }
+    ensures { Gives (λ x. (expr_of x.0, x.1)) result (at (One (AnExpr TOO_DEEP)) tokens.now) }
 {
     let Some((token, _)) = tokens.first() else {
         return Err(tokens.fault());
@@ -43,7 +44,7 @@ pub(crate) fn expr<'a>(
     level: u8,
     tokens: &Cursor<'a>,
 ) -> Result<(Expr, Cursor<'a>), Fault>
-    requires { level ≤ 65 }
+    requires { level ≤ TOO_DEEP }
     ensures { Gives (λ x. (expr_of x.0, x.1)) result (at (One (AnExpr level)) tokens.now) }
 {
     if level == TOO_DEEP {
@@ -61,7 +62,7 @@ fn built_expr<'a>(
     level: u8,
     tokens: &Cursor<'a>,
 ) -> Result<(Expr, Cursor<'a>), Fault>
-    requires { level < 65 }
+    requires { level < TOO_DEEP }
     ensures { Gives (λ x. (expr_of x.0, x.1)) result
         (by_these meant.Expr (table.expr_rules_with (level + 1) built) tokens.now) }
 {
@@ -124,7 +125,7 @@ fn text_or_tuple<'a>(
     quote: Quote,
     tokens: &Cursor<'a>,
 ) -> Result<(Expr, Cursor<'a>), Fault>
-    requires { level < 65 }
+    requires { level < TOO_DEEP }
     ensures { Gives (λ x. (expr_of x.0, x.1)) result
         (after_first (table.text_rule (level + 1) built) (quote_of quote) tokens.now) }
 {
@@ -143,7 +144,7 @@ fn fields<'a>(
     level: u8,
     tokens: &Cursor<'a>,
 ) -> Result<(Option<Vec<Expr>>, Cursor<'a>), Fault>
-    requires { level ≤ 65 }
+    requires { level ≤ TOO_DEEP }
     ensures { Gives (λ x. (option_map (λ v. map expr_of v.items) x.0, x.1)) result
         (at (MaybeListed (AnExpr level)) tokens.now) }
 {
@@ -162,7 +163,7 @@ pub(crate) fn exprs<'a>(
     level: u8,
     tokens: &Cursor<'a>,
 ) -> Result<(Vec<Expr>, Cursor<'a>), Fault>
-    requires { level ≤ 65 }
+    requires { level ≤ TOO_DEEP }
     ensures { Gives (λ x. (map expr_of x.0.items, x.1)) result
         (at (Commas (AnExpr level)) tokens.now) }
 {
@@ -183,9 +184,9 @@ fn more_exprs<'a>(
     prefix: Vec<Expr>,
     tokens: &Cursor<'a>,
 ) -> Result<(Vec<Expr>, Cursor<'a>), Fault>
-    requires { level ≤ 65 }
+    requires { level ≤ TOO_DEEP }
     ensures { Gives (λ x. (map expr_of x.0.items, x.1)) result
-        (prefixed (map expr_of prefix.items) (rest_at rests.Parentheses (AnExpr level) tokens.now)) }
+        (with_prefix (map expr_of prefix.items) (rest_at rests.Parentheses (AnExpr level) tokens.now)) }
 {
     let mut found = prefix;
     let mut left = tokens.copy();
@@ -202,7 +203,7 @@ fn more_exprs<'a>(
 /// A comma, and an expression.
 #[cycle(expression)]
 fn next_expr<'a>(alloc: Global, level: u8, tokens: &Cursor<'a>) -> Result<(Expr, Cursor<'a>), Fault>
-    requires { level ≤ 65 }
+    requires { level ≤ TOO_DEEP }
     ensures { Gives (λ x. (expr_of x.0, x.1)) result
         (next_at rests.Parentheses (AnExpr level) tokens.now) }
 {
@@ -238,7 +239,7 @@ fn pair<'a>(
     line: u32,
     tokens: &Cursor<'a>,
 ) -> Result<(Expr, Cursor<'a>), Fault>
-    requires { level < 65 }
+    requires { level < TOO_DEEP }
     ensures { Gives (λ x. (expr_of x.0, x.1)) result
         (after_first (table.pair_rule (level + 1) built) line tokens.now) }
 {
@@ -261,7 +262,7 @@ fn penc<'a>(
     line: u32,
     tokens: &Cursor<'a>,
 ) -> Result<(Expr, Cursor<'a>), Fault>
-    requires { level < 65 }
+    requires { level < TOO_DEEP }
     ensures { Gives (λ x. (expr_of x.0, x.1)) result
         (after_first (table.penc_rule (level + 1) built) line tokens.now) }
 {
@@ -286,7 +287,7 @@ fn aead<'a>(
     line: u32,
     tokens: &Cursor<'a>,
 ) -> Result<(Expr, Cursor<'a>), Fault>
-    requires { level < 65 }
+    requires { level < TOO_DEEP }
     ensures { Gives (λ x. (expr_of x.0, x.1)) result
         (after_first (table.aead_rule (level + 1) built) line tokens.now) }
 {
@@ -313,7 +314,7 @@ fn with_data<'a>(
     tuple: Tuple,
     tokens: &Cursor<'a>,
 ) -> Result<(Expr, Cursor<'a>), Fault>
-    requires { level < 65 }
+    requires { level < TOO_DEEP }
     ensures { Gives (λ x. (expr_of x.0, x.1)) result
         (syms_at meant.Expr (table.comma ∷ table.one (AnExpr (level + 1)) ∷ table.right_paren ∷ [])
         (λ ad. meant.Aead line (nm_of key) (use_of usage) (quote_of tuple.tag) (args_of tuple) ad) tokens.now) }
@@ -334,7 +335,7 @@ fn sign<'a>(
     line: u32,
     tokens: &Cursor<'a>,
 ) -> Result<(Expr, Cursor<'a>), Fault>
-    requires { level < 65 }
+    requires { level < TOO_DEEP }
     ensures { Gives (λ x. (expr_of x.0, x.1)) result
         (after_first (table.sign_rule (level + 1) built) line tokens.now) }
 {
@@ -359,7 +360,7 @@ fn mac<'a>(
     line: u32,
     tokens: &Cursor<'a>,
 ) -> Result<(Expr, Cursor<'a>), Fault>
-    requires { level < 65 }
+    requires { level < TOO_DEEP }
     ensures { Gives (λ x. (expr_of x.0, x.1)) result
         (after_first (table.mac_rule (level + 1) built) line tokens.now) }
 {
@@ -383,7 +384,7 @@ fn kdf<'a>(
     line: u32,
     tokens: &Cursor<'a>,
 ) -> Result<(Expr, Cursor<'a>), Fault>
-    requires { level < 65 }
+    requires { level < TOO_DEEP }
     ensures { Gives (λ x. (expr_of x.0, x.1)) result
         (after_first (table.kdf_rule (level + 1) built) line tokens.now) }
 {
@@ -406,7 +407,7 @@ fn hash<'a>(
     line: u32,
     tokens: &Cursor<'a>,
 ) -> Result<(Expr, Cursor<'a>), Fault>
-    requires { level < 65 }
+    requires { level < TOO_DEEP }
     ensures { Gives (λ x. (expr_of x.0, x.1)) result
         (after_first (table.hash_rule (level + 1) built) line tokens.now) }
 {

@@ -9,7 +9,8 @@ ghost use Rattle.dy_syntax.specs.Labels as meant;
 ghost use Rattle.dy_parse.specs.Mirrors.Gives.{Gives};
 
 use crate::cursor::{Cursor, Fault, is_word, name_of};
-use crate::skipping::{Due, TOO_DEEP, skip_over};
+use crate::skipping::{Due, skip_over};
+use dy_grammar::TOO_DEEP;
 use dy_syntax::{LabelText, Nm};
 use std::alloc::Global;
 
@@ -31,7 +32,7 @@ pub(crate) fn label<'a>(
 /// A label too deep to be built: only its place is kept.
 #[tactic(auto, using(crate::proofs::Grammars::Deep::deep_labels))]
 fn deep_label<'a>(alloc: Global, tokens: &Cursor<'a>) -> Result<(LabelText, Cursor<'a>), Fault>
-    ensures { Gives (λ x. (label_of x.0, x.1)) result (at (One (AnInner 65)) tokens.now) }
+    ensures { Gives (λ x. (label_of x.0, x.1)) result (at (One (AnInner TOO_DEEP)) tokens.now) }
 {
     let Some((token, _)) = tokens.first() else {
         return Err(tokens.fault());
@@ -48,7 +49,7 @@ pub(crate) fn inner<'a>(
     level: u8,
     tokens: &Cursor<'a>,
 ) -> Result<(LabelText, Cursor<'a>), Fault>
-    requires { level ≤ 65 }
+    requires { level ≤ TOO_DEEP }
     ensures { Gives (λ x. (label_of x.0, x.1)) result (at (One (AnInner level)) tokens.now) }
 {
     if level == TOO_DEEP {
@@ -66,7 +67,7 @@ fn built_label<'a>(
     level: u8,
     tokens: &Cursor<'a>,
 ) -> Result<(LabelText, Cursor<'a>), Fault>
-    requires { level < 65 }
+    requires { level < TOO_DEEP }
     ensures { Gives (λ x. (label_of x.0, x.1)) result
         (by_these meant.LabelText (table.inner_rules_with (level + 1) built) tokens.now) }
 {
@@ -111,7 +112,7 @@ fn join<'a>(
     line: u32,
     tokens: &Cursor<'a>,
 ) -> Result<(LabelText, Cursor<'a>), Fault>
-    requires { level < 65 }
+    requires { level < TOO_DEEP }
     ensures { Gives (λ x. (label_of x.0, x.1)) result
         (after_first (table.join_rule (level + 1) built) line tokens.now) }
 {
@@ -134,7 +135,7 @@ fn meet<'a>(
     line: u32,
     tokens: &Cursor<'a>,
 ) -> Result<(LabelText, Cursor<'a>), Fault>
-    requires { level < 65 }
+    requires { level < TOO_DEEP }
     ensures { Gives (λ x. (label_of x.0, x.1)) result
         (after_first (table.meet_rule (level + 1) built) line tokens.now) }
 {

@@ -1,5 +1,10 @@
-ghost use Rattle.std.specs.Prelude.{◌≡◌, ℕ, List};
+ghost use Rattle.std.specs.Prelude.{◌≡◌, ℕ, true, List};
+ghost use Rattle.dy_lex.specs.Tokens.{Piece};
 ghost use Rattle.dy_syntax.specs.Files.{File};
+ghost use Rattle.dy_syntax.specs.SameFiles.{AreSame};
+ghost use Rattle.dy_grammar.specs.Files.{IsFile};
+ghost use Rattle.dy_grammar.specs.Levels.{is_shallow};
+ghost use Rattle.dy_parse.specs.Limits.{FileBreaks};
 ghost use Rattle.dy_parse.specs.Reading.{Reads, IsBadLine, IsOverLimit};
 
 use crate::errors::LimitName;
@@ -31,3 +36,15 @@ pub fn one_parse()
     one_fault();
     dy_grammar::one_file();
 }
+
+/// Files that are the same but for line numbers break the same limits, whatever their tokens.
+pub fn same_limits()
+    ensures { (a b : File) (which : LimitName) (line : ℕ) →
+        AreSame a b → FileBreaks which line a → (other : ℕ) × FileBreaks which other b }
+{}
+
+/// Where a file nowhere breaks the limit of nesting, nothing in the tree that spells it stands too deep.
+pub fn trees_are_shallow()
+    ensures { (file : File) (tokens : List Piece) (is_file : IsFile file tokens) →
+        ((line : ℕ) → FileBreaks LimitName.Nesting line file → ⊥) → is_shallow is_file.tree ≡ true }
+{}

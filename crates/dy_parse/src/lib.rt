@@ -15,12 +15,11 @@ mod parsing;
 mod plans;
 mod recipes;
 mod skipping;
-pub mod small;
 mod statements;
 mod words;
 
 pub use errors::{LimitName, ParseError};
-pub use laws::{one_file, one_parse};
+pub use laws::{one_file, one_parse, same_limits, trees_are_shallow};
 pub use parsing::parse;
 
 #[cfg(test)]

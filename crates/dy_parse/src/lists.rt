@@ -1,7 +1,7 @@
 ghost use Rattle.std.specs.Prelude.{◌≡◌, List, map};
 ghost use Rattle.dy_grammar.specs.Parts.{Item, ItemValue, One, ManyTo, Commas};
 ghost use Rattle.dy_grammar.specs.Mirrors.Machine.{at};
-ghost use Rattle.dy_parse.specs.Mirrors.Lists.{after_mark, rest_at, rest_mark, next_at, prefixed, in_parentheses_at};
+ghost use Rattle.dy_parse.specs.Mirrors.Lists.{after_mark, rest_at, rest_mark, next_at, with_prefix, in_parentheses_at};
 ghost use Rattle.dy_parse.specs.Mirrors.Gives.{Gives};
 
 use crate::cursor::{Cursor, Fault};
@@ -65,7 +65,7 @@ pub(crate) fn read_rest<'a, P: Listed>(
     tokens: &Cursor<'a>,
 ) -> Result<(Items<P>, Cursor<'a>), Fault>
     ensures { Gives (λ x. (map P.view x.0, x.1)) result
-        (prefixed (map P.view prefix) (rest_at kind P.item tokens.now)) }
+        (with_prefix (map P.view prefix) (rest_at kind P.item tokens.now)) }
 {
     let mut found = prefix;
     let mut left = tokens.copy();

@@ -8,12 +8,13 @@ ghost use Rattle.dy_grammar.specs.Grammar as table;
 ghost use Rattle.dy_grammar.specs.Parts.{One, Commas, MaybeListed, ARecipe};
 ghost use Rattle.dy_grammar.specs.Mirrors.Machine.{at, after_first, built, by_these};
 ghost use Rattle.dy_parse.specs.Mirrors.Gives.{Gives};
-ghost use Rattle.dy_parse.specs.Mirrors.Lists.{prefixed, rest_at, next_at};
+ghost use Rattle.dy_parse.specs.Mirrors.Lists.{with_prefix, rest_at, next_at};
 ghost use Rattle.dy_parse.specs.Mirrors.Recipes.{unary_of, binary_of};
 ghost use Rattle.dy_parse.specs.declared.lists.Rest.TheVariants as rests;
 
 use crate::cursor::{Cursor, Fault, is_word, text_of};
-use crate::skipping::{Due, TOO_DEEP, skip_over};
+use crate::skipping::{Due, skip_over};
+use dy_grammar::TOO_DEEP;
 use dy_syntax::{Numbered, Quote, RecipeText};
 use dy_term::Text;
 use std::alloc::Global;
@@ -44,7 +45,7 @@ enum Binary {
 /// A recipe too deep to be built: only its place is kept.
 #[tactic(auto, using(crate::proofs::Grammars::Deep::deep_recipes))]
 fn deep_recipe<'a>(alloc: Global, tokens: &Cursor<'a>) -> Result<(RecipeText, Cursor<'a>), Fault>
-    ensures { Gives (λ x. (recipe_of x.0, x.1)) result (at (One (ARecipe 65)) tokens.now) }
+    ensures { Gives (λ x. (recipe_of x.0, x.1)) result (at (One (ARecipe TOO_DEEP)) tokens.now) }
 {
     let Some((token, _)) = tokens.first() else {
         return Err(tokens.fault());
@@ -66,7 +67,7 @@ pub(crate) fn recipe<'a>(
     level: u8,
     tokens: &Cursor<'a>,
 ) -> Result<(RecipeText, Cursor<'a>), Fault>
-    requires { level ≤ 65 }
+    requires { level ≤ TOO_DEEP }
     ensures { Gives (λ x. (recipe_of x.0, x.1)) result (at (One (ARecipe level)) tokens.now) }
 {
     if level == TOO_DEEP {
@@ -84,7 +85,7 @@ fn built_recipe<'a>(
     level: u8,
     tokens: &Cursor<'a>,
 ) -> Result<(RecipeText, Cursor<'a>), Fault>
-    requires { level < 65 }
+    requires { level < TOO_DEEP }
     ensures { Gives (λ x. (recipe_of x.0, x.1)) result
         (by_these meant.RecipeText (table.recipe_rules_with (level + 1) built) tokens.now) }
 {
@@ -118,7 +119,7 @@ fn making<'a>(
     level: u8,
     tokens: &Cursor<'a>,
 ) -> Result<(RecipeText, Cursor<'a>), Fault>
-    requires { level < 65 }
+    requires { level < TOO_DEEP }
     ensures { Gives (λ x. (recipe_of x.0, x.1)) result
         (by_these meant.RecipeText (table.making_rules (level + 1) built) tokens.now) }
 {
@@ -164,7 +165,7 @@ fn taking<'a>(
     level: u8,
     tokens: &Cursor<'a>,
 ) -> Result<(RecipeText, Cursor<'a>), Fault>
-    requires { level < 65 }
+    requires { level < TOO_DEEP }
     ensures { Gives (λ x. (recipe_of x.0, x.1)) result
         (by_these meant.RecipeText (table.taking_rules (level + 1) built) tokens.now) }
 {
@@ -205,7 +206,7 @@ fn text_or_tuple<'a>(
     quote: Quote,
     tokens: &Cursor<'a>,
 ) -> Result<(RecipeText, Cursor<'a>), Fault>
-    requires { level < 65 }
+    requires { level < TOO_DEEP }
     ensures { Gives (λ x. (recipe_of x.0, x.1)) result
         (after_first (table.parts_rule (level + 1) built) (quote_of quote) tokens.now) }
 {
@@ -224,7 +225,7 @@ fn parts<'a>(
     level: u8,
     tokens: &Cursor<'a>,
 ) -> Result<(Option<Vec<RecipeText>>, Cursor<'a>), Fault>
-    requires { level ≤ 65 }
+    requires { level ≤ TOO_DEEP }
     ensures { Gives (λ x. (option_map (λ v. map recipe_of v.items) x.0, x.1)) result
         (at (MaybeListed (ARecipe level)) tokens.now) }
 {
@@ -243,7 +244,7 @@ fn recipes<'a>(
     level: u8,
     tokens: &Cursor<'a>,
 ) -> Result<(Vec<RecipeText>, Cursor<'a>), Fault>
-    requires { level ≤ 65 }
+    requires { level ≤ TOO_DEEP }
     ensures { Gives (λ x. (map recipe_of x.0.items, x.1)) result
         (at (Commas (ARecipe level)) tokens.now) }
 {
@@ -264,9 +265,9 @@ fn more_recipes<'a>(
     prefix: Vec<RecipeText>,
     tokens: &Cursor<'a>,
 ) -> Result<(Vec<RecipeText>, Cursor<'a>), Fault>
-    requires { level ≤ 65 }
+    requires { level ≤ TOO_DEEP }
     ensures { Gives (λ x. (map recipe_of x.0.items, x.1)) result
-        (prefixed (map recipe_of prefix.items) (rest_at rests.Parentheses (ARecipe level) tokens.now)) }
+        (with_prefix (map recipe_of prefix.items) (rest_at rests.Parentheses (ARecipe level) tokens.now)) }
 {
     let mut found = prefix;
     let mut left = tokens.copy();
@@ -287,7 +288,7 @@ fn next_recipe<'a>(
     level: u8,
     tokens: &Cursor<'a>,
 ) -> Result<(RecipeText, Cursor<'a>), Fault>
-    requires { level ≤ 65 }
+    requires { level ≤ TOO_DEEP }
     ensures { Gives (λ x. (recipe_of x.0, x.1)) result
         (next_at rests.Parentheses (ARecipe level) tokens.now) }
 {
@@ -360,7 +361,7 @@ fn on_one<'a>(
     operation: Unary,
     tokens: &Cursor<'a>,
 ) -> Result<(RecipeText, Cursor<'a>), Fault>
-    requires { level < 65 }
+    requires { level < TOO_DEEP }
     ensures { Gives (λ x. (recipe_of x.0, x.1)) result
         (after_first (table.unary (level + 1) built [] (unary_of operation)) line tokens.now) }
 {
@@ -380,7 +381,7 @@ fn on_two<'a>(
     operation: Binary,
     tokens: &Cursor<'a>,
 ) -> Result<(RecipeText, Cursor<'a>), Fault>
-    requires { level < 65 }
+    requires { level < TOO_DEEP }
     ensures { Gives (λ x. (recipe_of x.0, x.1)) result
         (after_first (table.binary (level + 1) built [] (binary_of operation)) line tokens.now) }
 {
@@ -402,7 +403,7 @@ fn aead<'a>(
     line: u32,
     tokens: &Cursor<'a>,
 ) -> Result<(RecipeText, Cursor<'a>), Fault>
-    requires { level < 65 }
+    requires { level < TOO_DEEP }
     ensures { Gives (λ x. (recipe_of x.0, x.1)) result
         (after_first (table.sealed_rule (level + 1) built) line tokens.now) }
 {
@@ -427,7 +428,7 @@ fn kdf<'a>(
     line: u32,
     tokens: &Cursor<'a>,
 ) -> Result<(RecipeText, Cursor<'a>), Fault>
-    requires { level < 65 }
+    requires { level < TOO_DEEP }
     ensures { Gives (λ x. (recipe_of x.0, x.1)) result
         (after_first (table.derived_rule (level + 1) built) line tokens.now) }
 {

@@ -1,6 +1,7 @@
 ghost use Rattle.std.specs.Prelude.{◌≡◌, ◌+◌, ◌++◌, ◌∷◌, ◌≤◌, [], suc, length, codes, Some, None, IfSome, IfNone, if◌then◌else◌};
 ghost use Rattle.std.specs.Option.{option_map};
 ghost use Rattle.dy_lex.specs.Tokens.{piece_of};
+ghost use Rattle.dy_grammar.specs.declared.limits.TheConstants.{TOO_DEEP};
 ghost use Rattle.dy_grammar.specs.Parts.{One, ANm, AUse, AnInner, AnExpr, ARecipe};
 ghost use Rattle.dy_parse.specs.Mirrors.Skipping as skipping;
 ghost use Rattle.dy_parse.specs.Mirrors.Skipping.{sym_of, syms_of, more_for, after_sym, items_for, GoesOn, IsOther, Skips};
@@ -73,7 +74,7 @@ fn after_use(token: &Token<'_>) -> Option<&'static [Due]>
 #[tactic(auto, unfolding(dy_grammar::specs::Grammar::rules, dy_grammar::specs::Grammar::item_rules, crate::specs::Mirrors::Skipping::more_for))]
 fn after_label(token: &Token<'_>) -> Option<&'static [Due]>
     ensures more { option_map (λ more. syms_of more.now) result
-        ≡ more_for (One (AnInner 65)) (piece_of token.now) }
+        ≡ more_for (One (AnInner TOO_DEEP)) (piece_of token.now) }
     ensures few { IfSome result (λ more. length more.now ≤ 11) }
 {
     if is_word(token, b"self")
@@ -101,7 +102,7 @@ fn after_label(token: &Token<'_>) -> Option<&'static [Due]>
 #[tactic(auto, unfolding(dy_grammar::specs::Grammar::rules, dy_grammar::specs::Grammar::item_rules, crate::specs::Mirrors::Skipping::more_for))]
 fn after_expr(token: &Token<'_>) -> Option<&'static [Due]>
     ensures more { option_map (λ more. syms_of more.now) result
-        ≡ more_for (One (AnExpr 65)) (piece_of token.now) }
+        ≡ more_for (One (AnExpr TOO_DEEP)) (piece_of token.now) }
     ensures few { IfSome result (λ more. length more.now ≤ 11) }
 {
     if is_word(token, b"self") {
@@ -178,7 +179,7 @@ fn after_expr(token: &Token<'_>) -> Option<&'static [Due]>
 #[tactic(auto, unfolding(dy_grammar::specs::Grammar::rules, dy_grammar::specs::Grammar::item_rules, crate::specs::Mirrors::Skipping::more_for))]
 fn after_recipe(token: &Token<'_>) -> Option<&'static [Due]>
     ensures more { option_map (λ more. syms_of more.now) result
-        ≡ more_for (One (ARecipe 65)) (piece_of token.now) }
+        ≡ more_for (One (ARecipe TOO_DEEP)) (piece_of token.now) }
     ensures few { IfSome result (λ more. length more.now ≤ 11) }
 {
     const ONE: &[Due] = &[Due::Closing, Due::Recipe, Due::Opening];
@@ -250,9 +251,6 @@ fn after_recipe(token: &Token<'_>) -> Option<&'static [Due]>
         None
     }
 }
-
-/// What is due past this level is not built.
-pub(crate) const TOO_DEEP: u8 = 65;
 
 /// Whether nothing may stand in its place.
 fn can_pass(due: Due) -> bool

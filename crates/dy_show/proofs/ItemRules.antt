@@ -4,13 +4,14 @@ use Rattle.std.proofs.lemmas.List.{map-append, append-nil}
 use Rattle.dy_syntax.specs.Names.{Quote}
 use Rattle.dy_syntax.specs.Expressions as e
 use Rattle.dy_syntax.specs.Recipes as r
+use Rattle.dy_grammar.specs.declared.limits.TheConstants.{TOO_DEEP}
 use Rattle.dy_grammar.specs.Parts.{Item, AnId, ANm, AKind, AUse, AnAtom, AFieldType, AField, ARow, AParam, APartner, APattern, ALabel, AStatement, ADecl, ARound, AStep, AnAction, AnInner, AnExpr, ARecipe, ItemValue, MaybeListed}
 use Rattle.dy_grammar.specs.Grammar.{item_rules, text_or_tuple, text_or_recipes, word, one}
 use Rattle.std.specs.Prelude.{option_map, codes}
 use Rattle.dy_syntax.specs.SameFiles as b
-use Rattle.dy_show.specs.Levels.{item_is_within}
+use Rattle.dy_grammar.specs.Levels.{item_is_within}
 use Rattle.dy_show.specs.Canonical as c
-use Rattle.dy_show.specs.Shapes.{shape_of, shown, shown_item, bare_item}
+use Rattle.dy_show.specs.Shapes.{shape_of, part_shapes, shown_item, bare_item}
 use Rattle.dy_show.proofs.Fitting.{AllFit, all_grown}
 
 abbrev ItemFits : Item → Type 0
@@ -264,23 +265,23 @@ actions_fit = (
 inners_fit : (level : ℕ) → ItemFits (AnInner level)
 unfolding item_rules c.label
 inners_fit level = (
-  record { plain = refl; shows = λ k vs fine. rw fine (refl); respects = λ k vs. through b.bare_label (nat_lt level 65) _ _ },
+  record { plain = refl; shows = λ k vs fine. rw fine (refl); respects = λ k vs. through b.bare_label (nat_lt level TOO_DEEP) _ _ },
   (
-    record { plain = refl; shows = λ k vs fine. rw fine (refl); respects = λ k vs. through b.bare_label (nat_lt level 65) _ _ },
+    record { plain = refl; shows = λ k vs fine. rw fine (refl); respects = λ k vs. through b.bare_label (nat_lt level TOO_DEEP) _ _ },
     (
-      record { plain = refl; shows = λ k vs fine. rw fine (refl); respects = λ k vs. through b.bare_label (nat_lt level 65) _ _ },
+      record { plain = refl; shows = λ k vs fine. rw fine (refl); respects = λ k vs. through b.bare_label (nat_lt level TOO_DEEP) _ _ },
       (
-        record { plain = refl; shows = λ k vs fine. rw fine (refl); respects = λ k vs. through b.bare_label (nat_lt level 65) _ _ },
+        record { plain = refl; shows = λ k vs fine. rw fine (refl); respects = λ k vs. through b.bare_label (nat_lt level TOO_DEEP) _ _ },
         (
-          record { plain = refl; shows = λ k vs fine. rw fine (refl); respects = λ k vs. through b.bare_label (nat_lt level 65) _ _ },
+          record { plain = refl; shows = λ k vs fine. rw fine (refl); respects = λ k vs. through b.bare_label (nat_lt level TOO_DEEP) _ _ },
           (
-            record { plain = refl; shows = λ k vs fine. rw fine (refl); respects = λ k vs. through b.bare_label (nat_lt level 65) _ _ },
+            record { plain = refl; shows = λ k vs fine. rw fine (refl); respects = λ k vs. through b.bare_label (nat_lt level TOO_DEEP) _ _ },
             (
-              record { plain = refl; shows = λ k vs fine. rw fine (simp (map-append, append-nil, append_assoc)); respects = λ k vs. through b.bare_label (nat_lt level 65) _ _ },
+              record { plain = refl; shows = λ k vs fine. rw fine (simp (map-append, append-nil, append_assoc)); respects = λ k vs. through b.bare_label (nat_lt level TOO_DEEP) _ _ },
               (
-                record { plain = refl; shows = λ k vs fine. rw fine (simp (map-append, append-nil, append_assoc)); respects = λ k vs. through b.bare_label (nat_lt level 65) _ _ },
+                record { plain = refl; shows = λ k vs fine. rw fine (simp (map-append, append-nil, append_assoc)); respects = λ k vs. through b.bare_label (nat_lt level TOO_DEEP) _ _ },
                 (
-                  record { plain = refl; shows = λ k vs fine. rw fine (refl); respects = λ k vs. through b.bare_label (nat_lt level 65) _ _ },
+                  record { plain = refl; shows = λ k vs fine. rw fine (refl); respects = λ k vs. through b.bare_label (nat_lt level TOO_DEEP) _ _ },
                   tt,
                 ),
               ),
@@ -293,7 +294,7 @@ inners_fit level = (
 )
 
 text_shows : (quote : Quote) (args : Option (List e.Expr)) → map shape_of (c.expr (text_or_tuple quote args))
-    ≡ shape_of (c.text quote) ∷ (shown (MaybeListed (AnExpr 1)) args ++ [])
+    ≡ shape_of (c.text quote) ∷ (part_shapes (MaybeListed (AnExpr 1)) args ++ [])
 unfolding c.expr
 text_shows quote None = refl
 text_shows quote (Some args) = simp (exprs_of, append-nil)
@@ -305,54 +306,54 @@ text_respects quote (Some args) = ap (λ (xs : e.Exprs). e.Tuple (b.bare_quote q
 exprs_fit : (level : ℕ) → ItemFits (AnExpr level)
 unfolding item_rules c.expr c.seal
 exprs_fit level = (
-  record { plain = refl; shows = λ k vs fine. rw fine (refl); respects = λ k vs. through b.bare_expr (nat_lt level 65) _ _ },
+  record { plain = refl; shows = λ k vs fine. rw fine (refl); respects = λ k vs. through b.bare_expr (nat_lt level TOO_DEEP) _ _ },
   (
-    record { plain = refl; shows = λ k vs fine. rw fine (simp (map-append, append-nil, append_assoc)); respects = λ k vs. through b.bare_expr (nat_lt level 65) _ _ },
+    record { plain = refl; shows = λ k vs fine. rw fine (simp (map-append, append-nil, append_assoc)); respects = λ k vs. through b.bare_expr (nat_lt level TOO_DEEP) _ _ },
     (
-      record { plain = refl; shows = λ k vs fine. rw fine (simp (map-append, append-nil, append_assoc)); respects = λ k vs. through b.bare_expr (nat_lt level 65) _ _ },
+      record { plain = refl; shows = λ k vs fine. rw fine (simp (map-append, append-nil, append_assoc)); respects = λ k vs. through b.bare_expr (nat_lt level TOO_DEEP) _ _ },
       (
-        record { plain = refl; shows = λ k vs fine. rw fine (simp (map-append, append-nil, append_assoc)); respects = λ k vs. through b.bare_expr (nat_lt level 65) _ _ },
+        record { plain = refl; shows = λ k vs fine. rw fine (simp (map-append, append-nil, append_assoc)); respects = λ k vs. through b.bare_expr (nat_lt level TOO_DEEP) _ _ },
         (
           record {
             plain = refl;
             shows = λ k vs fine. rw fine (simp (exprs_of, map-append, append-nil, append_assoc));
-            respects = λ k vs. through b.bare_expr (nat_lt level 65) (e.Penc k vs.0 vs.1.0 vs.1.1.0 (e.row_of vs.1.1.1.0)) (e.Lit (record { text = []; line = k }))
-                ∙ ap (λ (xs : e.Exprs). cond (nat_lt level 65) (e.Penc 0 (b.bare_nm vs.0) (b.bare_use vs.1.0) (b.bare_quote vs.1.1.0) xs) (e.Lit (record { text = []; line = 0 }))) (bare_exprs_of vs.1.1.1.0);
+            respects = λ k vs. through b.bare_expr (nat_lt level TOO_DEEP) (e.Penc k vs.0 vs.1.0 vs.1.1.0 (e.row_of vs.1.1.1.0)) (e.Lit (record { text = []; line = k }))
+                ∙ ap (λ (xs : e.Exprs). cond (nat_lt level TOO_DEEP) (e.Penc 0 (b.bare_nm vs.0) (b.bare_use vs.1.0) (b.bare_quote vs.1.1.0) xs) (e.Lit (record { text = []; line = 0 }))) (bare_exprs_of vs.1.1.1.0);
           },
           (
             record {
               plain = refl;
               shows = λ k vs fine. rw fine (simp (exprs_of, map-append, append-nil, append_assoc));
-              respects = λ k vs. through b.bare_expr (nat_lt level 65) (e.Aead k vs.0 vs.1.0 vs.1.1.0 (e.row_of vs.1.1.1.0) vs.1.1.1.1.0) (e.Lit (record { text = []; line = k }))
-                  ∙ ap (λ (xs : e.Exprs). cond (nat_lt level 65) (e.Aead 0 (b.bare_nm vs.0) (b.bare_use vs.1.0) (b.bare_quote vs.1.1.0) xs (b.bare_expr vs.1.1.1.1.0)) (e.Lit (record { text = []; line = 0 }))) (bare_exprs_of vs.1.1.1.0);
+              respects = λ k vs. through b.bare_expr (nat_lt level TOO_DEEP) (e.Aead k vs.0 vs.1.0 vs.1.1.0 (e.row_of vs.1.1.1.0) vs.1.1.1.1.0) (e.Lit (record { text = []; line = k }))
+                  ∙ ap (λ (xs : e.Exprs). cond (nat_lt level TOO_DEEP) (e.Aead 0 (b.bare_nm vs.0) (b.bare_use vs.1.0) (b.bare_quote vs.1.1.0) xs (b.bare_expr vs.1.1.1.1.0)) (e.Lit (record { text = []; line = 0 }))) (bare_exprs_of vs.1.1.1.0);
             },
             (
               record {
                 plain = refl;
                 shows = λ k vs fine. rw fine (simp (exprs_of, map-append, append-nil, append_assoc));
-                respects = λ k vs. through b.bare_expr (nat_lt level 65) (e.Sign k vs.0 vs.1.0 vs.1.1.0 (e.row_of vs.1.1.1.0)) (e.Lit (record { text = []; line = k }))
-                    ∙ ap (λ (xs : e.Exprs). cond (nat_lt level 65) (e.Sign 0 (b.bare_nm vs.0) (b.bare_use vs.1.0) (b.bare_quote vs.1.1.0) xs) (e.Lit (record { text = []; line = 0 }))) (bare_exprs_of vs.1.1.1.0);
+                respects = λ k vs. through b.bare_expr (nat_lt level TOO_DEEP) (e.Sign k vs.0 vs.1.0 vs.1.1.0 (e.row_of vs.1.1.1.0)) (e.Lit (record { text = []; line = k }))
+                    ∙ ap (λ (xs : e.Exprs). cond (nat_lt level TOO_DEEP) (e.Sign 0 (b.bare_nm vs.0) (b.bare_use vs.1.0) (b.bare_quote vs.1.1.0) xs) (e.Lit (record { text = []; line = 0 }))) (bare_exprs_of vs.1.1.1.0);
               },
               (
                 record {
                   plain = refl;
                   shows = λ k vs fine. rw fine (simp (exprs_of, map-append, append-nil, append_assoc));
-                  respects = λ k vs. through b.bare_expr (nat_lt level 65) (e.Mac k vs.0 vs.1.0 vs.1.1.0 (e.row_of vs.1.1.1.0)) (e.Lit (record { text = []; line = k }))
-                      ∙ ap (λ (xs : e.Exprs). cond (nat_lt level 65) (e.Mac 0 (b.bare_nm vs.0) (b.bare_use vs.1.0) (b.bare_quote vs.1.1.0) xs) (e.Lit (record { text = []; line = 0 }))) (bare_exprs_of vs.1.1.1.0);
+                  respects = λ k vs. through b.bare_expr (nat_lt level TOO_DEEP) (e.Mac k vs.0 vs.1.0 vs.1.1.0 (e.row_of vs.1.1.1.0)) (e.Lit (record { text = []; line = k }))
+                      ∙ ap (λ (xs : e.Exprs). cond (nat_lt level TOO_DEEP) (e.Mac 0 (b.bare_nm vs.0) (b.bare_use vs.1.0) (b.bare_quote vs.1.1.0) xs) (e.Lit (record { text = []; line = 0 }))) (bare_exprs_of vs.1.1.1.0);
                 },
                 (
-                  record { plain = refl; shows = λ k vs fine. rw fine (simp (map-append, append-nil, append_assoc)); respects = λ k vs. through b.bare_expr (nat_lt level 65) _ _ },
+                  record { plain = refl; shows = λ k vs fine. rw fine (simp (map-append, append-nil, append_assoc)); respects = λ k vs. through b.bare_expr (nat_lt level TOO_DEEP) _ _ },
                   (
-                    record { plain = refl; shows = λ k vs fine. rw fine (simp (map-append, append-nil, append_assoc)); respects = λ k vs. through b.bare_expr (nat_lt level 65) _ _ },
+                    record { plain = refl; shows = λ k vs fine. rw fine (simp (map-append, append-nil, append_assoc)); respects = λ k vs. through b.bare_expr (nat_lt level TOO_DEEP) _ _ },
                     (
                       record {
                         plain = refl;
                         shows = λ k vs fine. rw fine (text_shows k vs.0);
-                        respects = λ k vs. through b.bare_expr (nat_lt level 65) (text_or_tuple k vs.0) (e.Lit (record { text = []; line = k.line }))
-                            ∙ ap (λ (x : e.Expr). cond (nat_lt level 65) x (e.Lit (record { text = []; line = 0 }))) (text_respects k vs.0);
+                        respects = λ k vs. through b.bare_expr (nat_lt level TOO_DEEP) (text_or_tuple k vs.0) (e.Lit (record { text = []; line = k.line }))
+                            ∙ ap (λ (x : e.Expr). cond (nat_lt level TOO_DEEP) x (e.Lit (record { text = []; line = 0 }))) (text_respects k vs.0);
                       },
                       (
-                        record { plain = refl; shows = λ k vs fine. rw fine (refl); respects = λ k vs. through b.bare_expr (nat_lt level 65) _ _ },
+                        record { plain = refl; shows = λ k vs fine. rw fine (refl); respects = λ k vs. through b.bare_expr (nat_lt level TOO_DEEP) _ _ },
                         tt,
                       ),
                     ),
@@ -368,7 +369,7 @@ exprs_fit level = (
 )
 
 parts_shows : (quote : Quote) (args : Option (List r.RecipeText)) → map shape_of (c.recipe (text_or_recipes quote args))
-    ≡ shape_of (c.text quote) ∷ (shown (MaybeListed (ARecipe 1)) args ++ [])
+    ≡ shape_of (c.text quote) ∷ (part_shapes (MaybeListed (ARecipe 1)) args ++ [])
 unfolding c.recipe
 parts_shows quote None = refl
 parts_shows quote (Some args) = simp (recipes_of, append-nil)
@@ -380,51 +381,51 @@ parts_respects quote (Some args) = ap (λ (xs : r.Recipes). r.Tuple (b.bare_quot
 recipes_fit : (level : ℕ) → ItemFits (ARecipe level)
 unfolding item_rules c.recipe
 recipes_fit level = (
-  record { plain = refl; shows = λ k vs fine. rw fine (refl); respects = λ k vs. through b.bare_recipe (nat_lt level 65) _ _ },
+  record { plain = refl; shows = λ k vs fine. rw fine (refl); respects = λ k vs. through b.bare_recipe (nat_lt level TOO_DEEP) _ _ },
   (
-    record { plain = refl; shows = λ k vs fine. rw fine (refl); respects = λ k vs. through b.bare_recipe (nat_lt level 65) _ _ },
+    record { plain = refl; shows = λ k vs fine. rw fine (refl); respects = λ k vs. through b.bare_recipe (nat_lt level TOO_DEEP) _ _ },
     (
-      record { plain = refl; shows = λ k vs fine. rw fine (refl); respects = λ k vs. through b.bare_recipe (nat_lt level 65) _ _ },
+      record { plain = refl; shows = λ k vs fine. rw fine (refl); respects = λ k vs. through b.bare_recipe (nat_lt level TOO_DEEP) _ _ },
       (
-        record { plain = refl; shows = λ k vs fine. rw fine (refl); respects = λ k vs. through b.bare_recipe (nat_lt level 65) _ _ },
+        record { plain = refl; shows = λ k vs fine. rw fine (refl); respects = λ k vs. through b.bare_recipe (nat_lt level TOO_DEEP) _ _ },
         (
-          record { plain = refl; shows = λ k vs fine. rw fine (refl); respects = λ k vs. through b.bare_recipe (nat_lt level 65) _ _ },
+          record { plain = refl; shows = λ k vs fine. rw fine (refl); respects = λ k vs. through b.bare_recipe (nat_lt level TOO_DEEP) _ _ },
           (
-            record { plain = refl; shows = λ k vs fine. rw fine (simp (map-append, append-nil, append_assoc)); respects = λ k vs. through b.bare_recipe (nat_lt level 65) _ _ },
+            record { plain = refl; shows = λ k vs fine. rw fine (simp (map-append, append-nil, append_assoc)); respects = λ k vs. through b.bare_recipe (nat_lt level TOO_DEEP) _ _ },
             (
-              record { plain = refl; shows = λ k vs fine. rw fine (simp (map-append, append-nil, append_assoc)); respects = λ k vs. through b.bare_recipe (nat_lt level 65) _ _ },
+              record { plain = refl; shows = λ k vs fine. rw fine (simp (map-append, append-nil, append_assoc)); respects = λ k vs. through b.bare_recipe (nat_lt level TOO_DEEP) _ _ },
               (
-                record { plain = refl; shows = λ k vs fine. rw fine (simp (map-append, append-nil, append_assoc)); respects = λ k vs. through b.bare_recipe (nat_lt level 65) _ _ },
+                record { plain = refl; shows = λ k vs fine. rw fine (simp (map-append, append-nil, append_assoc)); respects = λ k vs. through b.bare_recipe (nat_lt level TOO_DEEP) _ _ },
                 (
-                  record { plain = refl; shows = λ k vs fine. rw fine (simp (map-append, append-nil, append_assoc)); respects = λ k vs. through b.bare_recipe (nat_lt level 65) _ _ },
+                  record { plain = refl; shows = λ k vs fine. rw fine (simp (map-append, append-nil, append_assoc)); respects = λ k vs. through b.bare_recipe (nat_lt level TOO_DEEP) _ _ },
                   (
-                    record { plain = refl; shows = λ k vs fine. rw fine (simp (map-append, append-nil, append_assoc)); respects = λ k vs. through b.bare_recipe (nat_lt level 65) _ _ },
+                    record { plain = refl; shows = λ k vs fine. rw fine (simp (map-append, append-nil, append_assoc)); respects = λ k vs. through b.bare_recipe (nat_lt level TOO_DEEP) _ _ },
                     (
-                      record { plain = refl; shows = λ k vs fine. rw fine (simp (map-append, append-nil, append_assoc)); respects = λ k vs. through b.bare_recipe (nat_lt level 65) _ _ },
+                      record { plain = refl; shows = λ k vs fine. rw fine (simp (map-append, append-nil, append_assoc)); respects = λ k vs. through b.bare_recipe (nat_lt level TOO_DEEP) _ _ },
                       (
-                        record { plain = refl; shows = λ k vs fine. rw fine (simp (map-append, append-nil, append_assoc)); respects = λ k vs. through b.bare_recipe (nat_lt level 65) _ _ },
+                        record { plain = refl; shows = λ k vs fine. rw fine (simp (map-append, append-nil, append_assoc)); respects = λ k vs. through b.bare_recipe (nat_lt level TOO_DEEP) _ _ },
                         (
-                          record { plain = refl; shows = λ k vs fine. rw fine (simp (map-append, append-nil, append_assoc)); respects = λ k vs. through b.bare_recipe (nat_lt level 65) _ _ },
+                          record { plain = refl; shows = λ k vs fine. rw fine (simp (map-append, append-nil, append_assoc)); respects = λ k vs. through b.bare_recipe (nat_lt level TOO_DEEP) _ _ },
                           (
-                            record { plain = refl; shows = λ k vs fine. rw fine (simp (map-append, append-nil, append_assoc)); respects = λ k vs. through b.bare_recipe (nat_lt level 65) _ _ },
+                            record { plain = refl; shows = λ k vs fine. rw fine (simp (map-append, append-nil, append_assoc)); respects = λ k vs. through b.bare_recipe (nat_lt level TOO_DEEP) _ _ },
                             (
-                              record { plain = refl; shows = λ k vs fine. rw fine (simp (map-append, append-nil, append_assoc)); respects = λ k vs. through b.bare_recipe (nat_lt level 65) _ _ },
+                              record { plain = refl; shows = λ k vs fine. rw fine (simp (map-append, append-nil, append_assoc)); respects = λ k vs. through b.bare_recipe (nat_lt level TOO_DEEP) _ _ },
                               (
-                                record { plain = refl; shows = λ k vs fine. rw fine (simp (map-append, append-nil, append_assoc)); respects = λ k vs. through b.bare_recipe (nat_lt level 65) _ _ },
+                                record { plain = refl; shows = λ k vs fine. rw fine (simp (map-append, append-nil, append_assoc)); respects = λ k vs. through b.bare_recipe (nat_lt level TOO_DEEP) _ _ },
                                 (
-                                  record { plain = refl; shows = λ k vs fine. rw fine (simp (map-append, append-nil, append_assoc)); respects = λ k vs. through b.bare_recipe (nat_lt level 65) _ _ },
+                                  record { plain = refl; shows = λ k vs fine. rw fine (simp (map-append, append-nil, append_assoc)); respects = λ k vs. through b.bare_recipe (nat_lt level TOO_DEEP) _ _ },
                                   (
-                                    record { plain = refl; shows = λ k vs fine. rw fine (simp (map-append, append-nil, append_assoc)); respects = λ k vs. through b.bare_recipe (nat_lt level 65) _ _ },
+                                    record { plain = refl; shows = λ k vs fine. rw fine (simp (map-append, append-nil, append_assoc)); respects = λ k vs. through b.bare_recipe (nat_lt level TOO_DEEP) _ _ },
                                     (
-                                      record { plain = refl; shows = λ k vs fine. rw fine (simp (map-append, append-nil, append_assoc)); respects = λ k vs. through b.bare_recipe (nat_lt level 65) _ _ },
+                                      record { plain = refl; shows = λ k vs fine. rw fine (simp (map-append, append-nil, append_assoc)); respects = λ k vs. through b.bare_recipe (nat_lt level TOO_DEEP) _ _ },
                                       (
-                                        record { plain = refl; shows = λ k vs fine. rw fine (simp (map-append, append-nil, append_assoc)); respects = λ k vs. through b.bare_recipe (nat_lt level 65) _ _ },
+                                        record { plain = refl; shows = λ k vs fine. rw fine (simp (map-append, append-nil, append_assoc)); respects = λ k vs. through b.bare_recipe (nat_lt level TOO_DEEP) _ _ },
                                         (
                                           record {
                                             plain = refl;
                                             shows = λ k vs fine. rw fine (parts_shows k vs.0);
-                                            respects = λ k vs. through b.bare_recipe (nat_lt level 65) (text_or_recipes k vs.0) (r.Lit (record { text = []; line = k.line }))
-                                                ∙ ap (λ (x : r.RecipeText). cond (nat_lt level 65) x (r.Lit (record { text = []; line = 0 }))) (parts_respects k vs.0);
+                                            respects = λ k vs. through b.bare_recipe (nat_lt level TOO_DEEP) (text_or_recipes k vs.0) (r.Lit (record { text = []; line = k.line }))
+                                                ∙ ap (λ (x : r.RecipeText). cond (nat_lt level TOO_DEEP) x (r.Lit (record { text = []; line = 0 }))) (parts_respects k vs.0);
                                           },
                                           tt,
                                         ),

@@ -8,3 +8,4 @@ pub mod RoundTrip
 pub mod Rows
 pub mod WorkedFiles
 pub mod Writing
+pub mod OneText

@@ -13,9 +13,9 @@ use Rattle.dy_grammar.specs.Parts.{Item, ADecl, ARow, ARound, ItemValue, Parenth
 use Rattle.dy_grammar.specs.Tables.{part}
 use Rattle.dy_grammar.specs.Grammar.{item_rules, rules, end_of_input}
 use Rattle.dy_grammar.specs.Trees.{node, none}
-use Rattle.dy_show.specs.Levels.{is_within, item_is_within}
+use Rattle.dy_grammar.specs.Levels.{is_within, item_is_within}
 use Rattle.dy_show.specs.Canonical as c
-use Rattle.dy_show.specs.Shapes.{Shape, piece_shape, shown, bare, shown_item, bare_item}
+use Rattle.dy_show.specs.Shapes.{Shape, piece_shape, part_shapes, bare, shown_item, bare_item}
 use Rattle.dy_show.proofs.TokenValues.{accepts_same}
 use Rattle.dy_show.proofs.Fitting.{all_grown, Told, IsOther, PartRules, fits_part, fit_part}
 use Rattle.dy_show.proofs.ItemRules.{items_fit}
@@ -40,12 +40,12 @@ no_plan [] same = absurd (cc)
 no_plan (t ∷ []) same = record { tree = node _ (inl refl) t (accepts_symbol end_of_input t refl (let e : piece_shape t ≡ symbol_shape end_of_input = cc in e)) none; spelled = refl; same = refl; shallow = refl }
 no_plan (t ∷ u ∷ ts) same = absurd (cc)
 
-table_shows : (rows : List Row) → (shown TableEnd rows ≡ symbol_shape (codes "{") ∷ (shown (ManyTo ARow) rows ++ symbol_shape (codes ";") ∷ [])) ⊎ IsOther TableEnd rows 0
+table_shows : (rows : List Row) → (part_shapes TableEnd rows ≡ symbol_shape (codes "{") ∷ (part_shapes (ManyTo ARow) rows ++ symbol_shape (codes ";") ∷ [])) ⊎ IsOther TableEnd rows 0
 unfolding c.table
 table_shows [] = inr (record { lawful = (record { is_token = λ e. refl; short = refl }, tt); few = omega arith; told = no_table })
 table_shows (x ∷ rows) = inl (ap (λ (xs : List Shape). symbol_shape (codes "{") ∷ xs) (map-append _ (c.many_to c.right_brace c.row (x ∷ rows)) (c.semicolon ∷ [])))
 
-plan_shows : (rounds : List Round) → (shown Decls ([], record { rounds = rounds }) ≡ record { kind = Word; text = codes "plan" } ∷ symbol_shape (codes "{") ∷ (shown (ManyTo ARound) rounds ++ symbol_shape end_of_input ∷ [])) ⊎ IsOther Decls ([], record { rounds = rounds }) 1
+plan_shows : (rounds : List Round) → (part_shapes Decls ([], record { rounds = rounds }) ≡ record { kind = Word; text = codes "plan" } ∷ symbol_shape (codes "{") ∷ (part_shapes (ManyTo ARound) rounds ++ symbol_shape end_of_input ∷ [])) ⊎ IsOther Decls ([], record { rounds = rounds }) 1
 unfolding c.rounds
 plan_shows [] = inr (record { lawful = (record { is_token = λ e. absurd (cc); short = refl }, tt); few = omega arith; told = no_plan })
 plan_shows (x ∷ rounds) = inl (simp map-append)
@@ -56,7 +56,7 @@ many_fit : (x : Item) → PartRules (ManyTo x) (rules (ManyTo x))
 unfolding rules
 many_fit x = (
   fits_part (ManyTo x) _ (record { plain = refl; shows = λ k vs fine. refl; respects = λ k vs. refl }),
-  fit_part (ManyTo x) _ (all_grown (ItemValue x) (PartValue (ManyTo x)) (shown_item x) (bare_item x) (λ v. item_is_within x) (shown (ManyTo x)) (bare (ManyTo x)) (is_within (ManyTo x))
+  fit_part (ManyTo x) _ (all_grown (ItemValue x) (PartValue (ManyTo x)) (shown_item x) (bare_item x) (λ v. item_is_within x) (part_shapes (ManyTo x)) (bare (ManyTo x)) (is_within (ManyTo x))
       (part (ManyTo x) ∷ []) (λ v vs. v ∷ vs) (record {
         plain = refl;
         fine = λ a ws e. e;
@@ -69,7 +69,7 @@ commas_fit : (x : Item) → PartRules (Commas x) (rules (Commas x))
 unfolding rules c.comma_list
 commas_fit x = (
   fits_part (Commas x) _ (record { plain = refl; shows = λ k vs fine. refl; respects = λ k vs. refl }),
-  fit_part (Commas x) _ (all_grown (ItemValue x) (PartValue (Commas x)) (shown_item x) (bare_item x) (λ v. item_is_within x) (shown (Commas x)) (bare (Commas x)) (is_within (Commas x))
+  fit_part (Commas x) _ (all_grown (ItemValue x) (PartValue (Commas x)) (shown_item x) (bare_item x) (λ v. item_is_within x) (part_shapes (Commas x)) (bare (Commas x)) (is_within (Commas x))
       (part (MoreTo Parenthesis x) ∷ []) (λ v vs. v ∷ vs) (record {
         plain = refl;
         fine = λ a ws e. e;
@@ -84,7 +84,7 @@ decls_fit = (
   fits_part Decls _ (record { plain = refl; shows = λ k vs fine. refl; respects = λ k vs. refl }),
   (
     record { plain = refl; shows = λ k vs fine. plan_shows vs.0; respects = λ k vs. refl },
-    fit_part Decls _ (all_grown (ItemValue ADecl) (PartValue Decls) (shown_item ADecl) (bare_item ADecl) (λ v. item_is_within ADecl) (shown Decls) (bare Decls) (is_within Decls)
+    fit_part Decls _ (all_grown (ItemValue ADecl) (PartValue Decls) (shown_item ADecl) (bare_item ADecl) (λ v. item_is_within ADecl) (part_shapes Decls) (bare Decls) (is_within Decls)
         (part Decls ∷ []) (λ decl ds. (decl ∷ ds.0, ds.1)) (record {
           plain = refl;
           fine = λ a ws e. refl;
@@ -94,10 +94,10 @@ decls_fit = (
   ),
 )
 
-file_shows : (v : PartValue Decls) → shown AFile (record { version = 1; decls = v.0; plan = v.1 })
-    ≡ record { kind = Word; text = codes "dystar" } ∷ record { kind = Number; text = codes "1" } ∷ (shown Decls v ++ [])
+file_shows : (v : PartValue Decls) → part_shapes AFile (record { version = 1; decls = v.0; plan = v.1 })
+    ≡ record { kind = Word; text = codes "dystar" } ∷ record { kind = Number; text = codes "1" } ∷ (part_shapes Decls v ++ [])
 unfolding digits c.file
-file_shows v = ap (λ (xs : List Shape). record { kind = Word; text = codes "dystar" } ∷ record { kind = Number; text = codes "1" } ∷ xs) (sym (append-nil (shown Decls v)))
+file_shows v = ap (λ (xs : List Shape). record { kind = Word; text = codes "dystar" } ∷ record { kind = Number; text = codes "1" } ∷ xs) (sym (append-nil (part_shapes Decls v)))
 
 pub part_rules : (p : Part) → PartRules p (rules p)
 unfolding rules c.table c.on_args c.recv_open c.start_end c.msg_end c.more_to c.comma_list c.list_end

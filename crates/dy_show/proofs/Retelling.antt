@@ -9,8 +9,8 @@ use Rattle.dy_grammar.specs.Tables.{silent, token, part, Values, apply}
 use Rattle.dy_grammar.specs.Parts.{Item, Part, AFile, Decls, TableEnd, LastingOpen, OnArgs, RecvOpen, StartEnd, MsgEnd, One, ManyTo, Commas, MoreTo, ListEnd, MaybeListed, PartValue}
 use Rattle.dy_grammar.specs.Grammar.{Syms, RuleOf, rules, left_out}
 use Rattle.dy_grammar.specs.Trees.{Tree, Trees, node, absent, none, leaf, keep, tree, IsAmong, leaves, all_leaves, value, values}
-use Rattle.dy_show.specs.Levels.{is_within, list_is_within, is_shallow, are_shallow}
-use Rattle.dy_show.specs.Shapes.{Shape, piece_shape, silent_shape, value_shape, bare_value, shown, bare, bare_item, all_shown, bare_values, is_this, are_this, is_end, ends, IsLawful, AreLawful, silent_ends}
+use Rattle.dy_grammar.specs.Levels.{is_within, list_is_within, is_shallow, are_shallow}
+use Rattle.dy_show.specs.Shapes.{Shape, piece_shape, silent_shape, value_shape, bare_value, part_shapes, bare, bare_item, all_shown, bare_values, is_this, are_this, is_end, ends, IsLawful, AreLawful, silent_ends}
 use Rattle.dy_show.proofs.TokenValues.{kept_again, silent_again, accepts_same, kept_same}
 use Rattle.dy_show.proofs.Fitting.{Told, ToldAll, IsOther, PartRule, among_rules}
 use Rattle.dy_show.proofs.PartRules.{part_rules}
@@ -109,9 +109,9 @@ none_told [] same = record { trees = none; spelled = refl; same = refl; shallow 
 none_told (u ∷ us) same = absurd (cc)
 
 pub record Retold (p : Part) (v : PartValue p) (xs : List Piece) : Type 0 where
-  pub lawful : AreLawful (shown p v)
-  pub few : ends (shown p v) ≤ ends (map piece_shape xs)
-  pub told : (ts : List Piece) → map piece_shape ts ≡ shown p v → Told p v ts
+  pub lawful : AreLawful (part_shapes p v)
+  pub few : ends (part_shapes p v) ≤ ends (map piece_shape xs)
+  pub told : (ts : List Piece) → map piece_shape ts ≡ part_shapes p v → Told p v ts
 
 record RetoldAll (ss : Syms) (vs : Values PartValue ss) (xs : List Piece) : Type 0 where
   lawful : AreLawful (all_shown ss vs)
@@ -119,11 +119,11 @@ record RetoldAll (ss : Syms) (vs : Values PartValue ss) (xs : List Piece) : Type
   told : (ts : List Piece) → map piece_shape ts ≡ all_shown ss vs → ToldAll ss vs ts
 
 -- a part that is left out has no tokens
-absent_shown : (p : Part) (v : PartValue p) → left_out p ≡ Some v → shown p v ≡ []
-absent_shown (MaybeListed x) v out = let e : None ≡ v = cc in ap (shown (MaybeListed x)) (sym e)
+absent_shown : (p : Part) (v : PartValue p) → left_out p ≡ Some v → part_shapes p v ≡ []
+absent_shown (MaybeListed x) v out = let e : None ≡ v = cc in ap (part_shapes (MaybeListed x)) (sym e)
 absent_shown _ v out = absurd (cc)
 
-absent_told : (p : Part) (v : PartValue p) → left_out p ≡ Some v → shown p v ≡ [] → (ts : List Piece) → map piece_shape ts ≡ shown p v → Told p v ts
+absent_told : (p : Part) (v : PartValue p) → left_out p ≡ Some v → part_shapes p v ≡ [] → (ts : List Piece) → map piece_shape ts ≡ part_shapes p v → Told p v ts
 absent_told p v out empty [] same = record { tree = absent v out; spelled = refl; same = refl; shallow = refl }
 absent_told p v out empty (t ∷ ts) same = absurd (cc)
 
@@ -139,8 +139,8 @@ made p rule t vs = apply PartValue (PartValue p) rule.more (rule.make (token_val
 node_told : (p : Part) (rule : RuleOf (PartValue p)) (is_rule : IsAmong rule (rules p)) (t : Piece) (fits : accepts rule.first t ≡ true)
     (vs : Values PartValue rule.more) → is_within p (made p rule t vs) ≡ true → PartRule p rule
     → ((us : List Piece) → map piece_shape us ≡ all_shown rule.more vs → ToldAll rule.more vs us)
-    → shown p (made p rule t vs) ≡ piece_shape t ∷ all_shown rule.more vs
-    → (us : List Piece) → map piece_shape us ≡ shown p (made p rule t vs) → Told p (made p rule t vs) us
+    → part_shapes p (made p rule t vs) ≡ piece_shape t ∷ all_shown rule.more vs
+    → (us : List Piece) → map piece_shape us ≡ part_shapes p (made p rule t vs) → Told p (made p rule t vs) us
 node_told p rule is_rule t fits vs within by more is [] same = absurd (let bad : ◌≡◌ {A = List Shape} [] (piece_shape t ∷ all_shown rule.more vs) = same ∙ is in cc)
 node_told p rule is_rule t fits vs within by more is (u ∷ us) same =
     let both : ◌≡◌ {A = List Shape} (piece_shape u ∷ map piece_shape us) (piece_shape t ∷ all_shown rule.more vs) = same ∙ is in
@@ -161,10 +161,10 @@ node_told p rule is_rule t fits vs within by more is (u ∷ us) same =
 
 node_retold : (p : Part) (rule : RuleOf (PartValue p)) (is_rule : IsAmong rule (rules p)) (t : Piece) (fits : accepts rule.first t ≡ true) (ts : Trees rule.more)
     → is_within p (made p rule t (values ts)) ≡ true → PartRule p rule → IsLawful (piece_shape t) → RetoldAll rule.more (values ts) (all_leaves ts)
-    → (shown p (made p rule t (values ts)) ≡ value_shape rule.first (token_value rule.first t) ∷ all_shown rule.more (values ts)) ⊎ IsOther p (made p rule t (values ts)) (silent_ends rule.more)
+    → (part_shapes p (made p rule t (values ts)) ≡ value_shape rule.first (token_value rule.first t) ∷ all_shown rule.more (values ts)) ⊎ IsOther p (made p rule t (values ts)) (silent_ends rule.more)
     → Retold p (made p rule t (values ts)) (t ∷ all_leaves ts)
 node_retold p rule is_rule t fits ts within by lawful more (inl shows) =
-    let is : shown p (made p rule t (values ts)) ≡ piece_shape t ∷ all_shown rule.more (values ts) =
+    let is : part_shapes p (made p rule t (values ts)) ≡ piece_shape t ∷ all_shown rule.more (values ts) =
     shows ∙ ap (λ (s : Shape). s ∷ all_shown rule.more (values ts)) (kept_again rule.first t fits lawful) in
     record {
       lawful = subst (λ (xs : List Shape). AreLawful xs) (sym is) (lawful, more.lawful);
@@ -204,11 +204,11 @@ kept_told x ss t fits vs is more (u ∷ us) same =
     }
 
 part_told : (p : Part) (ss : Syms) (v : PartValue p) (vs : Values PartValue ss)
-    → ((us : List Piece) → map piece_shape us ≡ shown p v → Told p v us)
+    → ((us : List Piece) → map piece_shape us ≡ part_shapes p v → Told p v us)
     → ((us : List Piece) → map piece_shape us ≡ all_shown ss vs → ToldAll ss vs us)
-    → (us : List Piece) → map piece_shape us ≡ shown p v ++ all_shown ss vs → ToldAll (part p ∷ ss) (v, vs) us
+    → (us : List Piece) → map piece_shape us ≡ part_shapes p v ++ all_shown ss vs → ToldAll (part p ∷ ss) (v, vs) us
 part_told p ss v vs one more us same =
-    let parts = halves us (shown p v) (all_shown ss vs) same in
+    let parts = halves us (part_shapes p v) (all_shown ss vs) same in
     let first = one parts.first parts.first_is in
     let rest = more parts.second parts.second_is in
     record {
@@ -254,7 +254,7 @@ mutual
       let one = retold x both.0 (lawful_prefix (map piece_shape (leaves x)) (map piece_shape (all_leaves ts)) all) in
       let more = retold_all ts plain both.1 (lawful_suffix (map piece_shape (leaves x)) (map piece_shape (all_leaves ts)) all) in
       record {
-        lawful = lawful_append (shown p (value x)) (all_shown ss (values ts)) one.lawful more.lawful;
-        few = rw (split, ends_append (shown p (value x)), ends_append (map piece_shape (leaves x))) (let f = one.few in let g = more.few in omega arith);
+        lawful = lawful_append (part_shapes p (value x)) (all_shown ss (values ts)) one.lawful more.lawful;
+        few = rw (split, ends_append (part_shapes p (value x)), ends_append (map piece_shape (leaves x))) (let f = one.few in let g = more.few in omega arith);
         told = part_told p ss (value x) (values ts) one.told more.told;
       }

@@ -15,7 +15,7 @@ use Rattle.dy_show.specs.declared.spacing.Ending.TheVariants.{Bound}
 use Rattle.dy_show.specs.Spacing.{Lexeme}
 use Rattle.dy_show.specs.Canonical as c
 use Rattle.dy_show.specs.Readings.{is_short, ReadsAs, ReadsAgain}
-use Rattle.dy_show.specs.Shapes.{Shape, shape_of, piece_shape, the_end, shown, is_end, one_if, ends, AreLawful}
+use Rattle.dy_show.specs.Shapes.{Shape, shape_of, piece_shape, the_end, part_shapes, is_end, one_if, ends, AreLawful}
 use Rattle.dy_show.proofs.Cutting.{AreTokens, cut}
 use Rattle.dy_show.proofs.Retelling.{Retold, retold, ends_append, lawful_append, lawful_prefix}
 
@@ -62,16 +62,16 @@ shapes_short (t ∷ ts) all = and_from (is_short t) (list_all is_short ts) all.0
 
 reads_from : (source : List ℕ) (file : File) (tokens : List Piece) → Spells tokens 0 1 source → list_all is_short tokens ≡ true → Retold AFile file (with_end source tokens) → ReadsAgain file
 reads_from source file tokens cut_ short r =
-    let shown_is : shown AFile file ≡ map shape_of (c.file file) ++ shape_of the_end ∷ [] = map-append shape_of (c.file file) (the_end ∷ []) in
+    let shown_is : part_shapes AFile file ≡ map shape_of (c.file file) ++ shape_of the_end ∷ [] = map-append shape_of (c.file file) (the_end ∷ []) in
     let leaves_are : map piece_shape (with_end source tokens) ≡ map piece_shape tokens ++ shape_of the_end ∷ [] = map-append piece_shape tokens _ in
     let none : ends (map piece_shape tokens) ≡ 0 = source_ends tokens 0 1 source cut_ in
     let few : ends (map shape_of (c.file file) ++ shape_of the_end ∷ []) ≤ ends (map piece_shape tokens ++ shape_of the_end ∷ []) =
-    subst (λ (xs : List Shape). ends xs ≤ ends (map piece_shape tokens ++ shape_of the_end ∷ [])) shown_is (subst (λ (xs : List Shape). ends (shown AFile file) ≤ ends xs) leaves_are r.few) in
+    subst (λ (xs : List Shape). ends xs ≤ ends (map piece_shape tokens ++ shape_of the_end ∷ [])) shown_is (subst (λ (xs : List Shape). ends (part_shapes AFile file) ≤ ends xs) leaves_are r.few) in
     let fewer : ends (map shape_of (c.file file)) ≡ 0 =
     omega (arith, ends_append (map shape_of (c.file file)) (shape_of the_end ∷ []), ends_append (map piece_shape tokens) (shape_of the_end ∷ []), none, few) in
     let lawful = lawful_prefix (map shape_of (c.file file)) (shape_of the_end ∷ []) (subst (λ (xs : List Shape). AreLawful xs) shown_is r.lawful) in
     let again = cut Bound (c.file file) (are_tokens (c.file file) lawful fewer) 0 1 in
-    let same : map piece_shape (with_end (c.canon file) again.pieces) ≡ shown AFile file =
+    let same : map piece_shape (with_end (c.canon file) again.pieces) ≡ part_shapes AFile file =
     map-append piece_shape again.pieces _ ∙ ap (λ (xs : List Shape). xs ++ shape_of the_end ∷ []) again.shapes ∙ sym shown_is in
     let told = r.told (with_end (c.canon file) again.pieces) same in
     record {

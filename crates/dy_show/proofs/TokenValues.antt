@@ -10,12 +10,13 @@ use Rattle.std.proofs.lemmas.List.{take_all, take_at}
 use Rattle.std.proofs.lemmas.Slice.Eq.{bytes_eq-Decides}
 use Rattle.std.proofs.lemmas.Fmt.{decimal-digits_value}
 use Rattle.std.proofs.lemmas.Str.Parse.{IsDigitsTest, FoldsDigits, numerals_by_fold}
-use Rattle.dy_term.specs.Characters.{quoted, is_long_text}
+use Rattle.dy_term.specs.declared.limits.TheConstants.{MAX_LENGTH}
+use Rattle.dy_term.specs.Characters.{in_quotes, is_long_text}
 use Rattle.dy_lex.specs.declared.tokens.TokenKind.{TokenKind}
 use Rattle.dy_lex.specs.declared.tokens.TokenKind.TheVariants.{Word, Number, Text, Symbol}
 use Rattle.dy_lex.specs.Symbols.{is_number}
 use Rattle.dy_lex.specs.Tokens.{Piece}
-use Rattle.dy_grammar.specs.Terminals.{Terminal, This, AName, AText, ANumber, same_kind, is_free_word, unquoted, is_short_number, number_of, accepts, token_value}
+use Rattle.dy_grammar.specs.Terminals.{Terminal, This, AName, AText, ANumber, same_kind, is_free_word, text_inside, is_short_number, number_of, accepts, token_value}
 use Rattle.dy_show.specs.Readings.{fits_kind}
 use Rattle.dy_show.specs.Shapes.{Shape, piece_shape, silent_shape, value_shape, bare_value, is_this, IsLawful}
 
@@ -82,23 +83,23 @@ number_written (b ∷ c ∷ more) is =
 
 -- ---- texts
 
-unquoted_quoted : (inner : List ℕ) → unquoted (quoted inner) ≡ inner
-unquoted_quoted inner = take_at inner (34 ∷ []) (length (quoted inner) - 2) (omega (arith, length-append inner (34 ∷ [])))
+unquoted_quoted : (inner : List ℕ) → text_inside (in_quotes inner) ≡ inner
+unquoted_quoted inner = take_at inner (34 ∷ []) (length (in_quotes inner) - 2) (omega (arith, length-append inner (34 ∷ [])))
 
 -- ---- tokens
 
-name_shape : (kind : TokenKind) (text : List ℕ) → same_kind kind Word ≡ true → fits_kind kind text ≡ true → ◌≡◌ {A = Shape} (record { kind = Word; text = take 32 text }) (record { kind = kind; text = text })
-name_shape Word text e short = ap (λ (w : List ℕ). record { kind = Word; text = w }) (take_all 32 text (leb-true (length text) 32 short))
+name_shape : (kind : TokenKind) (text : List ℕ) → same_kind kind Word ≡ true → fits_kind kind text ≡ true → ◌≡◌ {A = Shape} (record { kind = Word; text = take MAX_LENGTH text }) (record { kind = kind; text = text })
+name_shape Word text e short = ap (λ (w : List ℕ). record { kind = Word; text = w }) (take_all MAX_LENGTH text (leb-true (length text) MAX_LENGTH short))
 name_shape Number text e short = absurd (cc)
 name_shape Text text e short = absurd (cc)
 name_shape Symbol text e short = absurd (cc)
 
-text_shape : (kind : TokenKind) (text : List ℕ) → same_kind kind Text ≡ true → IsLawful (record { kind = kind; text = text }) → ◌≡◌ {A = Shape} (record { kind = Text; text = quoted (take 32 (unquoted text)) }) (record { kind = kind; text = text })
+text_shape : (kind : TokenKind) (text : List ℕ) → same_kind kind Text ≡ true → IsLawful (record { kind = kind; text = text }) → ◌≡◌ {A = Shape} (record { kind = Text; text = in_quotes (take MAX_LENGTH (text_inside text)) }) (record { kind = kind; text = text })
 text_shape Text text e lawful =
     let is = lawful.is_token refl in
-    let inside : unquoted text ≡ is.0 = ap unquoted is.2 ∙ unquoted_quoted is.0 in
-    let all : take 32 (unquoted text) ≡ unquoted text = take_all 32 (unquoted text) (leb-true (length (unquoted text)) 32 lawful.short) in
-    ap (λ (w : List ℕ). record { kind = Text; text = w }) (ap quoted (all ∙ inside) ∙ sym is.2)
+    let inside : text_inside text ≡ is.0 = ap text_inside is.2 ∙ unquoted_quoted is.0 in
+    let all : take MAX_LENGTH (text_inside text) ≡ text_inside text = take_all MAX_LENGTH (text_inside text) (leb-true (length (text_inside text)) MAX_LENGTH lawful.short) in
+    ap (λ (w : List ℕ). record { kind = Text; text = w }) (ap in_quotes (all ∙ inside) ∙ sym is.2)
 text_shape Word text e lawful = absurd (cc)
 text_shape Number text e lawful = absurd (cc)
 text_shape Symbol text e lawful = absurd (cc)
@@ -137,7 +138,7 @@ this_shape kind text t fits =
 pub kept_again : (x : Terminal) (t : Piece) → accepts x t ≡ true → IsLawful (piece_shape t) → value_shape x (token_value x t) ≡ piece_shape t
 kept_again (This kind text) t fits lawful = this_shape kind text t fits
 kept_again AName t fits lawful = name_shape t.kind t.text (and_parts (same_kind t.kind Word) (is_free_word t.text) fits).0 lawful.short
-kept_again AText t fits lawful = text_shape t.kind t.text (and_parts (same_kind t.kind Text) (is_long_text (unquoted t.text)) fits).0 lawful
+kept_again AText t fits lawful = text_shape t.kind t.text (and_parts (same_kind t.kind Text) (is_long_text (text_inside t.text)) fits).0 lawful
 kept_again ANumber t fits lawful = number_shape t.kind t.text (and_parts (same_kind t.kind Number) (is_short_number t.text) fits).0 lawful
 
 pub silent_again : (x : Terminal) (t : Piece) → is_this x ≡ true → accepts x t ≡ true → silent_shape x ≡ piece_shape t

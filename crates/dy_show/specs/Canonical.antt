@@ -2,7 +2,7 @@
 use Rattle.std.specs.Prelude.{ℕ, Bool, true, false, List, [], ◌∷◌, ◌++◌, codes, Option, Some, None}
 use Rattle.std.specs.List.{flat_map}
 use Rattle.std.specs.Fmt.{decimal}
-use Rattle.dy_term.specs.Characters.{quoted}
+use Rattle.dy_term.specs.Characters.{in_quotes}
 use Rattle.dy_lex.specs.declared.letters.TheConstants.{NEWLINE}
 use Rattle.dy_lex.specs.declared.tokens.TokenKind.TheVariants.{Word, Number, Text, Symbol}
 use Rattle.dy_syntax.specs.Names as n
@@ -49,7 +49,7 @@ abbrev pub name : Id → Lexeme
 name id = word id.word
 
 abbrev pub text : Quote → Lexeme
-text quote = record { stand = Near; kind = Text; text = quoted quote.text }
+text quote = record { stand = Near; kind = Text; text = in_quotes quote.text }
 
 abbrev pub number : ℕ → Lexeme
 number i = record { stand = Near; kind = Number; text = decimal i }

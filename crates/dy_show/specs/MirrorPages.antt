@@ -54,8 +54,8 @@ abbrev pub rest_of : {A : Type 0} → Bool → Lexeme → (A → List Lexeme) �
 rest_of true end item xs = comma_list end item xs
 rest_of false end item xs = more_to end item xs
 
-abbrev pub opened : List ℕ → List Lexeme
-opened w = word w ∷ left_paren ∷ []
+abbrev pub open_word : List ℕ → List Lexeme
+open_word w = word w ∷ left_paren ∷ []
 
 -- what of a recipe stands before its first part, or the whole where it has none
 abbrev pub recipe_head : RecipeText → List Lexeme
@@ -67,18 +67,18 @@ recipe_head (r.Cert x) = numbered_item (codes "cert") x
 recipe_head (r.Nonce line step) = word (codes "nonce") ∷ name step ∷ []
 recipe_head (r.Field line step version i) =
     word (codes "field") ∷ name step ∷ dot ∷ number version ∷ dot ∷ number i ∷ []
-recipe_head (r.Pair line first second) = opened (codes "pair")
-recipe_head (r.Pk line key) = opened (codes "pk")
-recipe_head (r.Vk line key) = opened (codes "vk")
-recipe_head (r.Penc line key message) = opened (codes "penc")
-recipe_head (r.Aead line key message ad) = opened (codes "aead")
-recipe_head (r.Sign line key message) = opened (codes "sign")
-recipe_head (r.Mac line key message) = opened (codes "mac")
-recipe_head (r.Kdf line key context input) = opened (codes "kdf")
-recipe_head (r.Hash line message) = opened (codes "hash")
-recipe_head (r.Fst line value) = opened (codes "fst")
-recipe_head (r.Snd line value) = opened (codes "snd")
-recipe_head (r.Pdec line value key) = opened (codes "pdec")
-recipe_head (r.Adec line value key) = opened (codes "adec")
-recipe_head (r.Ad line value) = opened (codes "ad")
-recipe_head (r.Body line value) = opened (codes "body")
+recipe_head (r.Pair line first second) = open_word (codes "pair")
+recipe_head (r.Pk line key) = open_word (codes "pk")
+recipe_head (r.Vk line key) = open_word (codes "vk")
+recipe_head (r.Penc line key message) = open_word (codes "penc")
+recipe_head (r.Aead line key message ad) = open_word (codes "aead")
+recipe_head (r.Sign line key message) = open_word (codes "sign")
+recipe_head (r.Mac line key message) = open_word (codes "mac")
+recipe_head (r.Kdf line key context input) = open_word (codes "kdf")
+recipe_head (r.Hash line message) = open_word (codes "hash")
+recipe_head (r.Fst line value) = open_word (codes "fst")
+recipe_head (r.Snd line value) = open_word (codes "snd")
+recipe_head (r.Pdec line value key) = open_word (codes "pdec")
+recipe_head (r.Adec line value key) = open_word (codes "adec")
+recipe_head (r.Ad line value) = open_word (codes "ad")
+recipe_head (r.Body line value) = open_word (codes "body")

@@ -1,21 +1,22 @@
 -- When a source reads as a file, words, texts and levels being within their limits.
 use Rattle.std.specs.Prelude.{◌≡◌, ℕ, Bool, true, nat_le, List, length}
 use Rattle.std.specs.List.{list_all}
+use Rattle.dy_term.specs.declared.limits.TheConstants.{MAX_LENGTH}
 use Rattle.dy_lex.specs.declared.tokens.TokenKind.{TokenKind}
 use Rattle.dy_lex.specs.declared.tokens.TokenKind.TheVariants.{Word, Number, Text, Symbol}
 use Rattle.dy_lex.specs.Tokens.{Piece, Spells}
 use Rattle.dy_syntax.specs.Files.{File}
-use Rattle.dy_grammar.specs.Terminals.{unquoted}
+use Rattle.dy_grammar.specs.Terminals.{text_inside}
 use Rattle.dy_grammar.specs.Files.{IsFile, with_end}
 use Rattle.dy_syntax.specs.SameFiles.{AreSame}
 use Rattle.dy_show.specs.Canonical.{canon}
-use Rattle.dy_show.specs.Levels.{is_shallow}
+use Rattle.dy_grammar.specs.Levels.{is_shallow}
 
--- a word has at most 32 bytes, and so has what stands between the quotes of a text
+-- a word has at most MAX_LENGTH bytes, and so has what stands between the quotes of a text
 abbrev pub fits_kind : TokenKind → List ℕ → Bool
-fits_kind Word text = nat_le (length text) 32
+fits_kind Word text = nat_le (length text) MAX_LENGTH
 fits_kind Number text = true
-fits_kind Text text = nat_le (length (unquoted text)) 32
+fits_kind Text text = nat_le (length (text_inside text)) MAX_LENGTH
 fits_kind Symbol text = true
 
 abbrev pub is_short : Piece → Bool

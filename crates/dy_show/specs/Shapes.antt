@@ -3,7 +3,7 @@ use Rattle.std.specs.Prelude.{◌≡◌, ℕ, ◌+◌, Bool, true, false, ◌&&�
 use Rattle.std.specs.List.{flat_map}
 use Rattle.std.specs.Str.{bytes_eq}
 use Rattle.std.specs.Fmt.{decimal}
-use Rattle.dy_term.specs.Characters.{quoted}
+use Rattle.dy_term.specs.Characters.{in_quotes}
 use Rattle.dy_lex.specs.declared.tokens.TokenKind.{TokenKind}
 use Rattle.dy_lex.specs.declared.tokens.TokenKind.TheVariants.{Word, Number, Text, Symbol}
 use Rattle.dy_lex.specs.Symbols.{IsToken}
@@ -40,7 +40,7 @@ silent_shape ANumber = record { kind = Symbol; text = [] }
 abbrev pub value_shape : (x : Terminal) → TokenValue x → Shape
 value_shape (This kind text) line = record { kind = kind; text = text }
 value_shape AName id = record { kind = Word; text = id.word }
-value_shape AText quote = record { kind = Text; text = quoted quote.text }
+value_shape AText quote = record { kind = Text; text = in_quotes quote.text }
 value_shape ANumber n = record { kind = Number; text = decimal n }
 
 abbrev pub bare_value : (x : Terminal) → TokenValue x → TokenValue x
@@ -71,8 +71,8 @@ lexemes (ListEnd w x) vs = c.list_end (listing w) (tokens_of x) vs
 lexemes (MaybeListed x) None = []
 lexemes (MaybeListed x) (Some vs) = c.left_paren ∷ c.commas (tokens_of x) vs
 
-abbrev pub shown : (p : Part) → PartValue p → List Shape
-shown p v = map shape_of (lexemes p v)
+abbrev pub part_shapes : (p : Part) → PartValue p → List Shape
+part_shapes p v = map shape_of (lexemes p v)
 
 abbrev pub shown_item : (x : Item) → ItemValue x → List Shape
 shown_item x v = map shape_of (tokens_of x v)
@@ -121,7 +121,7 @@ abbrev pub all_shown : (ss : Syms) → Values PartValue ss → List Shape
 all_shown [] vs = []
 all_shown (silent x ∷ ss) vs = silent_shape x ∷ all_shown ss vs
 all_shown (token x ∷ ss) vs = value_shape x vs.0 ∷ all_shown ss vs.1
-all_shown (part p ∷ ss) vs = shown p vs.0 ++ all_shown ss vs.1
+all_shown (part p ∷ ss) vs = part_shapes p vs.0 ++ all_shown ss vs.1
 
 abbrev pub bare_values : (ss : Syms) → Values PartValue ss → Values PartValue ss
 bare_values [] vs = tt

@@ -15,7 +15,7 @@ mod spacing;
 mod statements;
 
 pub use files::show;
-pub use laws::reads_again;
+pub use laws::{one_text, reads_again};
 pub use spacing::{Ending, Stand};
 
 #[cfg(test)]

@@ -5,7 +5,7 @@ ghost use Rattle.std.specs.Prelude.{◌≡◌, [], ◌∷◌, codes, IfOk};
 ghost use Rattle.dy_syntax.specs.Meaning.{id_of, numbered_of, recipe_of, recipes_of};
 ghost use Rattle.dy_syntax.specs.declared.recipes.RecipeText.TheBlock.{hidden-the_row-RecipeText-0};
 ghost use Rattle.dy_show.specs.Canonical as c;
-ghost use Rattle.dy_show.specs.MirrorPages.{put_all, opened, recipe_head};
+ghost use Rattle.dy_show.specs.MirrorPages.{put_all, open_word, recipe_head};
 
 use crate::lists::separate;
 use crate::pages::Page;
@@ -14,7 +14,7 @@ use std::alloc::AllocError;
 
 /// A word and `(`.
 fn open(page: &mut Page, word: &[u8]) -> Result<(), AllocError>
-    ensures { IfOk result (λ _. page.new ≡ put_all page.old (opened word.now)) }
+    ensures { IfOk result (λ _. page.new ≡ put_all page.old (open_word word.now)) }
 {
     page.word(word)?;
     page.mark(b"(")

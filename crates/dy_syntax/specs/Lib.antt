@@ -1,4 +1,3 @@
-pub mod Small
 pub mod Names
 pub mod Labels
 pub mod Declarations

@@ -16,7 +16,6 @@ mod refusals;
 mod rules;
 mod sameness;
 mod scopes;
-pub mod small;
 mod statements;
 
 pub use declarations::{

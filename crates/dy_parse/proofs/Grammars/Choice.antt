@@ -1,6 +1,6 @@
 -- The first of some rules that a token begins.
 use Rattle.std.proofs.Common.{◌≡◌, ℕ, zero, suc, Bool, true, false, cond, List, [], ◌∷◌, drop, length, Option, Some, None, refl, sym, ◌∙◌, ap, subst}
-use Rattle.std.specs.Prelude.{Result, Ok, Err}
+use Rattle.std.specs.Prelude.{Result, Err}
 use Rattle.dy_lex.specs.Tokens.{Piece}
 use Rattle.dy_syntax.specs.declared.expressions.Expr as code
 use Rattle.dy_syntax.specs.Expressions as e

@@ -22,7 +22,7 @@ use Rattle.dy_parse.specs.declared.lists.Rest.TheVariants as rests
 use Rattle.dy_parse.specs.Mirrors.Gives.{Fails, Gives}
 use Rattle.dy_parse.specs.Mirrors.Files.{ends_decls, plan_body, plan_at, alone, with_decls}
 use Rattle.dy_parse.specs.Mirrors.Plans.{corrupt_at, forge_at, inject_at, start_at, action_at}
-use Rattle.dy_parse.proofs.Grammars.Lists.{choose-extended, next_shorter}
+use Rattle.dy_parse.proofs.Grammars.Lists.{choose-with_more, next_shorter}
 
 -- a declaration, and those that are read after it
 abbrev then_decls : Reads Decl → Reads (List Decl × Plan)
@@ -63,7 +63,7 @@ decls_are (t ∷ rest) =
     at_is_by_rules Decls (t ∷ rest)
     ∙ by_tests (accepts (This Symbol end_of_input) t) (accepts (This Word (codes "plan")) t) rest (plan_body rest) (Ok (record { rounds = [] }, rest)) (Err (length (t ∷ rest))) _ _ _ refl (body_alone rest)
     ∙ ap (cond (accepts (This Symbol end_of_input) t || accepts (This Word (codes "plan")) t) (alone (plan_at (t ∷ rest))))
-    (choose-extended Decl (List Decl × Plan) (part Decls ∷ []) (λ decl ds. (decl ∷ ds.0, ds.1)) (item_rules ADecl) t rest (suc (length rest))
+    (choose-with_more Decl (List Decl × Plan) (part Decls ∷ []) (λ decl ds. (decl ∷ ds.0, ds.1)) (item_rules ADecl) t rest (suc (length rest))
     ∙ ap then_decls (sym (at_is_by_rules (One ADecl) (t ∷ rest))))
 
 -- ---- one by one

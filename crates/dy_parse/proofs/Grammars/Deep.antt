@@ -1,5 +1,5 @@
 -- Parts that stand too deep: only the place of the first token is kept.
-use Rattle.std.proofs.Common.{◌≡◌, ℕ, suc, true, false, List, [], ◌∷◌, ◌++◌, refl, sym, ◌∙◌, ap, subst, inl, inr}
+use Rattle.std.proofs.Common.{◌≡◌, ℕ, false, List, [], ◌∷◌, ◌++◌, refl, sym, ◌∙◌, ap, subst, inl, inr}
 use Rattle.std.specs.Prelude.{Result, Ok, Err}
 use Rattle.std.proofs.lemmas.Result.{IfOk-at_ok}
 use Rattle.dy_lex.specs.Tokens.{Piece}
@@ -9,11 +9,12 @@ use Rattle.dy_syntax.specs.Expressions as e
 use Rattle.dy_syntax.specs.Expressions.{Expr}
 use Rattle.dy_syntax.specs.Recipes as r
 use Rattle.dy_syntax.specs.Recipes.{RecipeText}
-use Rattle.dy_grammar.specs.Terminals.{accepts, token_value}
+use Rattle.dy_grammar.specs.declared.limits.TheConstants.{TOO_DEEP}
+use Rattle.dy_grammar.specs.Terminals.{token_value}
 use Rattle.dy_grammar.specs.Tables.{part, Values, apply}
-use Rattle.dy_grammar.specs.Parts.{Part, PartValue, Item, ItemValue, One, AnInner, AnExpr, ARecipe}
-use Rattle.dy_grammar.specs.Grammar.{RuleOf, rules, item_rules, left_out}
-use Rattle.dy_grammar.specs.Trees.{IsAmong, Tree, Trees, node, absent, none, tree, leaves, all_leaves, value, values}
+use Rattle.dy_grammar.specs.Parts.{PartValue, Item, ItemValue, One, AnInner, AnExpr, ARecipe}
+use Rattle.dy_grammar.specs.Grammar.{RuleOf, rules, item_rules}
+use Rattle.dy_grammar.specs.Trees.{IsAmong, Trees, node, absent, none, tree, all_leaves, values}
 use Rattle.dy_grammar.specs.Mirrors.Machine.{◌>>=◌, Reads, at, skip}
 use Rattle.dy_parse.specs.Mirrors.Skipping.{deep_at}
 use Rattle.dy_grammar.proofs.Sound.{IsRead, sound}
@@ -56,14 +57,14 @@ deep x make constant tokens = go (at (One x) tokens) refl where
     fails [] failed = failed_at_end x left failed
     fails (t ∷ rest) failed = ap (λ k. k >>= λ left. Ok (make t.line, left)) failed
 
-pub deep_labels : (tokens : List Piece) → at (One (AnInner 65)) tokens ≡ deep_at (λ line. l.Nobody line) (One (AnInner 65)) tokens
+pub deep_labels : (tokens : List Piece) → at (One (AnInner TOO_DEEP)) tokens ≡ deep_at (λ line. l.Nobody line) (One (AnInner TOO_DEEP)) tokens
 unfolding item_rules
-deep_labels tokens = deep (AnInner 65) (λ line. l.Nobody line) (λ t vs. refl, (λ t vs. refl, (λ t vs. refl, (λ t vs. refl, (λ t vs. refl, (λ t vs. refl, (λ t vs. refl, (λ t vs. refl, (λ t vs. refl, tt))))))))) tokens
+deep_labels tokens = deep (AnInner TOO_DEEP) (λ line. l.Nobody line) (λ t vs. refl, (λ t vs. refl, (λ t vs. refl, (λ t vs. refl, (λ t vs. refl, (λ t vs. refl, (λ t vs. refl, (λ t vs. refl, (λ t vs. refl, tt))))))))) tokens
 
-pub deep_exprs : (tokens : List Piece) → at (One (AnExpr 65)) tokens ≡ deep_at (λ line. e.Lit (record { text = []; line = line })) (One (AnExpr 65)) tokens
+pub deep_exprs : (tokens : List Piece) → at (One (AnExpr TOO_DEEP)) tokens ≡ deep_at (λ line. e.Lit (record { text = []; line = line })) (One (AnExpr TOO_DEEP)) tokens
 unfolding item_rules
-deep_exprs tokens = deep (AnExpr 65) (λ line. e.Lit (record { text = []; line = line })) (λ t vs. refl, (λ t vs. refl, (λ t vs. refl, (λ t vs. refl, (λ t vs. refl, (λ t vs. refl, (λ t vs. refl, (λ t vs. refl, (λ t vs. refl, (λ t vs. refl, (λ t vs. refl, (λ t vs. refl, tt)))))))))))) tokens
+deep_exprs tokens = deep (AnExpr TOO_DEEP) (λ line. e.Lit (record { text = []; line = line })) (λ t vs. refl, (λ t vs. refl, (λ t vs. refl, (λ t vs. refl, (λ t vs. refl, (λ t vs. refl, (λ t vs. refl, (λ t vs. refl, (λ t vs. refl, (λ t vs. refl, (λ t vs. refl, (λ t vs. refl, tt)))))))))))) tokens
 
-pub deep_recipes : (tokens : List Piece) → at (One (ARecipe 65)) tokens ≡ deep_at (λ line. r.Lit (record { text = []; line = line })) (One (ARecipe 65)) tokens
+pub deep_recipes : (tokens : List Piece) → at (One (ARecipe TOO_DEEP)) tokens ≡ deep_at (λ line. r.Lit (record { text = []; line = line })) (One (ARecipe TOO_DEEP)) tokens
 unfolding item_rules
-deep_recipes tokens = deep (ARecipe 65) (λ line. r.Lit (record { text = []; line = line })) (λ t vs. refl, (λ t vs. refl, (λ t vs. refl, (λ t vs. refl, (λ t vs. refl, (λ t vs. refl, (λ t vs. refl, (λ t vs. refl, (λ t vs. refl, (λ t vs. refl, (λ t vs. refl, (λ t vs. refl, (λ t vs. refl, (λ t vs. refl, (λ t vs. refl, (λ t vs. refl, (λ t vs. refl, (λ t vs. refl, (λ t vs. refl, (λ t vs. refl, (λ t vs. refl, tt))))))))))))))))))))) tokens
+deep_recipes tokens = deep (ARecipe TOO_DEEP) (λ line. r.Lit (record { text = []; line = line })) (λ t vs. refl, (λ t vs. refl, (λ t vs. refl, (λ t vs. refl, (λ t vs. refl, (λ t vs. refl, (λ t vs. refl, (λ t vs. refl, (λ t vs. refl, (λ t vs. refl, (λ t vs. refl, (λ t vs. refl, (λ t vs. refl, (λ t vs. refl, (λ t vs. refl, (λ t vs. refl, (λ t vs. refl, (λ t vs. refl, (λ t vs. refl, (λ t vs. refl, (λ t vs. refl, tt))))))))))))))))))))) tokens

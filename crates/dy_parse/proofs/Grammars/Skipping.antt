@@ -9,7 +9,7 @@ use Rattle.dy_parse.specs.declared.skipping.Due.{Due}
 use Rattle.dy_grammar.specs.Terminals.{This, accepts}
 use Rattle.dy_grammar.specs.Tables.{Sym, silent, token, part, Takes}
 use Rattle.dy_grammar.specs.Parts.{Item, ItemValue, Parenthesis, Part, PartValue, One, Commas, MoreTo}
-use Rattle.dy_grammar.specs.Grammar.{Syms, RuleOf, rules, item_rules, left_out, opens, extended}
+use Rattle.dy_grammar.specs.Grammar.{Syms, RuleOf, rules, item_rules, left_out, opens, with_more}
 use Rattle.dy_grammar.specs.Mirrors.Machine.{rule_for, without, skip, skip_by_rule, skip_turn, skip_finish}
 use Rattle.dy_parse.specs.Mirrors.Skipping.{sym_of, syms_of, more_of, more_for, after_sym, can_pass, items_for, GoesOn, IsOther}
 
@@ -88,17 +88,17 @@ refuses (part p) (t ∷ rest) ss may other =
 
 -- ---- lists
 
-more_for-extended : {A : Type 0} (X : Type 0) (more : Syms) (f : A → Takes PartValue more X) (rs : List (RuleOf A)) (t : Piece) → more_of (rule_for (map (extended {X = X} more f) rs) t) ≡ option_map (λ m. m ++ more) (more_of (rule_for rs t))
-more_for-extended X more f [] t = refl
-more_for-extended {A = A} X more f (r ∷ rs) t = by_test (accepts r.first t) _ _ (more_for-extended X more f rs t) where
-  by_test : (b : Bool) (o : Option (RuleOf X)) (q : Option (RuleOf A)) → more_of o ≡ option_map (λ m. m ++ more) (more_of q) → more_of (cond b (Some (extended {X = X} more f r)) o) ≡ option_map (λ m. m ++ more) (more_of (cond b (Some r) q))
+more_for-with_more : {A : Type 0} (X : Type 0) (more : Syms) (f : A → Takes PartValue more X) (rs : List (RuleOf A)) (t : Piece) → more_of (rule_for (map (with_more {X = X} more f) rs) t) ≡ option_map (λ m. m ++ more) (more_of (rule_for rs t))
+more_for-with_more X more f [] t = refl
+more_for-with_more {A = A} X more f (r ∷ rs) t = by_test (accepts r.first t) _ _ (more_for-with_more X more f rs t) where
+  by_test : (b : Bool) (o : Option (RuleOf X)) (q : Option (RuleOf A)) → more_of o ≡ option_map (λ m. m ++ more) (more_of q) → more_of (cond b (Some (with_more {X = X} more f r)) o) ≡ option_map (λ m. m ++ more) (more_of (cond b (Some r) q))
   by_test true o q same = refl
   by_test false o q same = same
 
 -- the first token of a list of items, and of an item
 pub commas_more : (x : Item) (t : Piece) → more_for (Commas x) t ≡ items_for (accepts (This Symbol (codes ")")) t) (more_for (One x) t) (part (MoreTo Parenthesis x) ∷ [])
 unfolding more_for rules
-commas_more x t = by_test (accepts (This Symbol (codes ")")) t) _ (more_for-extended (List (ItemValue x)) (part (MoreTo Parenthesis x) ∷ []) (λ v vs. v ∷ vs) (item_rules x) t) where
+commas_more x t = by_test (accepts (This Symbol (codes ")")) t) _ (more_for-with_more (List (ItemValue x)) (part (MoreTo Parenthesis x) ∷ []) (λ v vs. v ∷ vs) (item_rules x) t) where
   by_test : (b : Bool) (o : Option (RuleOf (List (ItemValue x)))) {m : Option Syms} → more_of o ≡ m → more_of (cond b (Some (opens (codes ")") [] (λ line. []))) o) ≡ cond b (Some []) m
   by_test true o same = refl
   by_test false o same = same

@@ -1,5 +1,5 @@
 -- What the code keeps is the first of all limits that are broken.
-use Rattle.std.proofs.Common.{◌≡◌, ◌∙◌, sym, ap, subst, refl, ℕ, ◌<◌, ◌≤◌, ◌⊎◌, inl, inr, Bool, true, false, ◌&&◌, ◌||◌, ◌==◌, Option, Some, None, List, [], ◌∷◌, ◌++◌, cond, arith}
+use Rattle.std.proofs.Common.{◌≡◌, ◌∙◌, sym, ap, subst, refl, ℕ, ◌<◌, ◌≤◌, ◌⊎◌, inl, inr, Bool, true, false, ◌&&◌, ◌||◌, ◌==◌, Option, Some, None, List, [], ◌∷◌, cond, arith}
 use Rattle.std.specs.Prelude.{nat_lt, slice_get, unwrap_or}
 use Rattle.std.proofs.lemmas.Bool.{ltb-true, ltb-false, eqb-true, eqb-false}
 use Rattle.dy_lex.specs.Tokens.{Piece}
@@ -7,7 +7,7 @@ use Rattle.dy_syntax.specs.Files.{File}
 use Rattle.dy_parse.specs.declared.errors.LimitName.{LimitName}
 use Rattle.dy_parse.specs.declared.errors.LimitName.TheVariants.{Word, Text, Nesting, Usages, Cases, Events, States, Handlers, Statements, Names, Fields, Leaves, Partners, Rows, Rounds, Steps, Principals}
 use Rattle.dy_parse.specs.Limits.{Excess, number, IsIn, excess_in, BreaksLimit, IsFirstLimit}
-use Rattle.dy_parse.specs.Mirrors.Limits.{is_before, note, note_all}
+use Rattle.dy_parse.specs.Mirrors.Limits.{is_before, note_all}
 
 -- the first fault comes not after the second
 IsNotAfter : Excess → Excess → Type 0

@@ -1,5 +1,5 @@
 -- Expressions and recipes in a row, and the lists that the code keeps of them.
-use Rattle.std.proofs.Common.{◌≡◌, ◌∙◌, ap, ℕ, List, map, ◌∷◌, ◌++◌, refl}
+use Rattle.std.proofs.Common.{◌≡◌, ◌∙◌, ap, ℕ, map, ◌∷◌, ◌++◌, refl}
 use Rattle.std.specs.List.{flat_map}
 use Rattle.std.specs.declared.vec.Vec.{Vec}
 use Rattle.std.specs.declared.alloc.Global.{Global}
@@ -11,7 +11,7 @@ use Rattle.dy_syntax.specs.declared.recipes.RecipeText.TheBlock.{hidden-the_row-
 use Rattle.dy_syntax.specs.Expressions.{Exprs, Nil, Cons, list_of}
 use Rattle.dy_syntax.specs.Recipes as r
 use Rattle.dy_syntax.specs.Meaning.{expr_of, exprs_of, args_of, recipe_of, recipes_of}
-use Rattle.dy_parse.specs.Limits.{Excess, inside_args, expr_within, inside_recipes, recipe_within, named_in, named_in_parts}
+use Rattle.dy_parse.specs.Limits.{inside_args, expr_within, inside_recipes, recipe_within, named_in, named_in_parts}
 
 list_of-exprs_of : {n : _} (k : code.Row_of-Expr n) → list_of (exprs_of k) ≡ map expr_of (code.items-the_row-Expr n k)
 list_of-exprs_of code.end_of-Expr = refl

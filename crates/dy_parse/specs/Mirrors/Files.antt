@@ -7,9 +7,9 @@ use Rattle.dy_syntax.specs.Plans.{Plan}
 use Rattle.dy_syntax.specs.Files.{Decl}
 use Rattle.dy_grammar.specs.Terminals.{This, accepts}
 use Rattle.dy_grammar.specs.Tables.{part}
-use Rattle.dy_grammar.specs.Parts.{ARound, ManyTo, ADecl, One, Decls}
+use Rattle.dy_grammar.specs.Parts.{ARound, ManyTo}
 use Rattle.dy_grammar.specs.Grammar.{left_brace, mark, end_of_input}
-use Rattle.dy_grammar.specs.Mirrors.Machine.{◌>>=◌, Reads, at, syms_at}
+use Rattle.dy_grammar.specs.Mirrors.Machine.{◌>>=◌, Reads, syms_at}
 
 -- no declaration follows: the end of the input, or a plan
 unfoldable pub ends_decls : List Piece → Bool

@@ -1,6 +1,6 @@
 -- Lists, one item at a time, as the code reads them.
-use Rattle.std.specs.Prelude.{ℕ, suc, List, [], ◌∷◌, ◌++◌, length, Option, Some, None, Result, Ok, Err, codes, if◌then◌else◌}
-use Rattle.dy_lex.specs.declared.tokens.TokenKind.TheVariants.{Word, Symbol}
+use Rattle.std.specs.Prelude.{ℕ, List, [], ◌∷◌, ◌++◌, Option, Some, None, Ok, codes, if◌then◌else◌}
+use Rattle.dy_lex.specs.declared.tokens.TokenKind.TheVariants.{Symbol}
 use Rattle.dy_lex.specs.Tokens.{Piece}
 use Rattle.dy_syntax.specs.Names.{UseText}
 use Rattle.dy_syntax.specs.Labels.{LabelText}
@@ -9,8 +9,7 @@ use Rattle.dy_parse.specs.declared.declarations.Listing.TheVariants as words
 use Rattle.dy_parse.specs.declared.lists.Rest.{Rest}
 use Rattle.dy_parse.specs.declared.lists.Rest.TheVariants as rests
 use Rattle.dy_grammar.specs.Terminals.{This, accepts}
-use Rattle.dy_grammar.specs.Parts.{Item, ItemValue, Closing, Parenthesis, Semicolon, Listing, Requires, After, Knows, One, ManyTo, Commas, MoreTo, ALabel, AUse}
-use Rattle.dy_grammar.specs.Grammar.{closing}
+use Rattle.dy_grammar.specs.Parts.{Item, ItemValue, Parenthesis, Semicolon, Listing, Requires, After, Knows, One, ManyTo, Commas, MoreTo, ALabel, AUse}
 use Rattle.dy_grammar.specs.Mirrors.Machine.{◌>>=◌, Reads, at, token_at}
 
 -- what stands after this symbol
@@ -19,13 +18,13 @@ after_mark m [] = None
 after_mark m (t ∷ rest) = if accepts (This Symbol m) t then Some rest else None
 
 -- a value, where a list ends
-abbrev pub ended : {A : Type 0} → Option (List Piece) → A → Reads A → Reads A
-ended None v other = other
-ended (Some rest) v other = Ok (v, rest)
+abbrev pub end_or : {A : Type 0} → Option (List Piece) → A → Reads A → Reads A
+end_or None v other = other
+end_or (Some rest) v other = Ok (v, rest)
 
 -- these items, and those that are read
-abbrev pub prefixed : {A : Type 0} → List A → Reads (List A) → Reads (List A)
-prefixed prefix read = read >>= λ y. Ok (prefix ++ y.0, y.1)
+abbrev pub with_prefix : {A : Type 0} → List A → Reads (List A) → Reads (List A)
+with_prefix prefix read = read >>= λ y. Ok (prefix ++ y.0, y.1)
 
 -- an item, and those that are read after it
 abbrev pub before : {A : Type 0} → Reads A → (List Piece → Reads (List A)) → Reads (List A)

@@ -6,9 +6,10 @@ use Rattle.dy_parse.specs.declared.skipping.Due.{Due}
 use Rattle.dy_parse.specs.declared.skipping.Due.TheVariants as dues
 use Rattle.dy_parse.specs.declared.cursor.Fault.{Fault}
 use Rattle.dy_parse.specs.declared.cursor.Fault.TheVariants as faults
-use Rattle.dy_grammar.specs.Terminals.{Terminal, accepts}
+use Rattle.dy_grammar.specs.declared.limits.TheConstants.{TOO_DEEP}
+use Rattle.dy_grammar.specs.Terminals.{accepts}
 use Rattle.dy_grammar.specs.Tables.{Sym, silent, token, part}
-use Rattle.dy_grammar.specs.Parts.{ANm, AUse, AnInner, AnExpr, ARecipe, Parenthesis, Part, One, Commas, MoreTo, MaybeListed}
+use Rattle.dy_grammar.specs.Parts.{ANm, AUse, AnInner, AnExpr, ARecipe, Parenthesis, Part, Commas, MoreTo, MaybeListed}
 use Rattle.dy_grammar.specs.Grammar.{Syms, RuleOf, word, mark, name, text, number, one, rules, left_out}
 use Rattle.dy_grammar.specs.Mirrors.Machine.{◌>>=◌, Reads, rule_for, skip}
 
@@ -26,15 +27,15 @@ sym_of dues.Nm = one ANm
 sym_of dues.Use = one AUse
 sym_of dues.Nms = part (Commas ANm)
 sym_of dues.MoreNms = part (MoreTo Parenthesis ANm)
-sym_of dues.Label = one (AnInner 65)
-sym_of dues.Expr = one (AnExpr 65)
-sym_of dues.Exprs = part (Commas (AnExpr 65))
-sym_of dues.MoreExprs = part (MoreTo Parenthesis (AnExpr 65))
-sym_of dues.Fields = part (MaybeListed (AnExpr 65))
-sym_of dues.Recipe = one (ARecipe 65)
-sym_of dues.Recipes = part (Commas (ARecipe 65))
-sym_of dues.MoreRecipes = part (MoreTo Parenthesis (ARecipe 65))
-sym_of dues.Parts = part (MaybeListed (ARecipe 65))
+sym_of dues.Label = one (AnInner TOO_DEEP)
+sym_of dues.Expr = one (AnExpr TOO_DEEP)
+sym_of dues.Exprs = part (Commas (AnExpr TOO_DEEP))
+sym_of dues.MoreExprs = part (MoreTo Parenthesis (AnExpr TOO_DEEP))
+sym_of dues.Fields = part (MaybeListed (AnExpr TOO_DEEP))
+sym_of dues.Recipe = one (ARecipe TOO_DEEP)
+sym_of dues.Recipes = part (Commas (ARecipe TOO_DEEP))
+sym_of dues.MoreRecipes = part (MoreTo Parenthesis (ARecipe TOO_DEEP))
+sym_of dues.Parts = part (MaybeListed (ARecipe TOO_DEEP))
 
 -- the last one of a stack is due first
 abbrev pub syms_of : List Due → Syms

@@ -114,7 +114,7 @@ fn note_row(room: usize, exprs: &[Expr], first: &mut First)
 pub(crate) fn note_expr(expr: &Expr, first: &mut First)
     ensures { first_of first.new ≡ note_all (limits.excess_in_expr (expr_of expr.now)) (first_of first.old) }
 {
-    note_within(64, expr, first);
+    note_within(LimitName::Nesting.most(), expr, first);
 }
 
 impl Noted for Expr {

@@ -5,7 +5,7 @@ ghost use Rattle.dy_syntax.specs.Meaning.{decl_of, file_of};
 ghost use Rattle.dy_parse.specs.Limits as limits;
 ghost use Rattle.dy_parse.specs.Mirrors.Limits.{first_of, note_all, count_all};
 
-use crate::cursor::unquoted;
+use crate::cursor::text_inside;
 use crate::errors::LimitName;
 use crate::limits::counts::{Count, note_count};
 use crate::limits::least::First;
@@ -31,7 +31,7 @@ fn note_token(token: &Token<'_>, first: &mut First)
 {
     match token.kind {
         TokenKind::Word => note_bytes(LimitName::Word, token.line, token.text, first),
-        TokenKind::Text => note_bytes(LimitName::Text, token.line, unquoted(token.text), first),
+        TokenKind::Text => note_bytes(LimitName::Text, token.line, text_inside(token.text), first),
         TokenKind::Number | TokenKind::Symbol => {}
     }
 }
@@ -58,7 +58,7 @@ pub(crate) fn note_tokens(tokens: &[Token<'_>], first: &mut First)
 
 /// With this declaration, if it is of this sort.
 fn count_decl(sort: LimitName, decl: &Decl, count: Count) -> Count
-    ensures { result ≡ count_all (limits.declared sort (decl_of decl.now)) count }
+    ensures { result ≡ count_all (limits.lines_of_sort sort (decl_of decl.now)) count }
 {
     match (sort, decl) {
         (LimitName::Usages, Decl::Usage(usage)) => count.with(usage.line),
@@ -72,7 +72,7 @@ fn count_decl(sort: LimitName, decl: &Decl, count: Count) -> Count
 
 /// Counts the declarations of this sort.
 fn count_sort(sort: LimitName, decls: &[Decl], count: Count) -> Count
-    ensures { result ≡ count_all (flat_map (limits.declared sort) (map decl_of decls.now)) count }
+    ensures { result ≡ count_all (flat_map (limits.lines_of_sort sort) (map decl_of decls.now)) count }
 {
     let mut count = count;
     for decl in decls {

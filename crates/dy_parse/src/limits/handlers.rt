@@ -174,7 +174,7 @@ fn note_names(handler: &Handler, first: &mut First)
     ensures { first_of first.new ≡ note_all
         (limits.counts LimitName.Names (limits.names_of (handler_of handler.now))) (first_of first.old) }
 {
-    let names = count_names(handler, Count::Room(7));
+    let names = count_names(handler, Count::Room(LimitName::Names.most()));
     note_count(LimitName::Names, names, first);
 }
 

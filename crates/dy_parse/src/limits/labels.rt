@@ -75,7 +75,7 @@ fn note_inside(room: usize, label: &LabelText, first: &mut First)
 pub(crate) fn note_label(label: &LabelText, first: &mut First)
     ensures { first_of first.new ≡ note_all (limits.excess_in_label (label_of label.now)) (first_of first.old) }
 {
-    let leaves = count_leaves(label, Count::Room(16));
+    let leaves = count_leaves(label, Count::Room(LimitName::Leaves.most()));
     note_count(LimitName::Leaves, leaves, first);
-    note_within(64, label, first);
+    note_within(LimitName::Nesting.most(), label, first);
 }

@@ -3,6 +3,8 @@ ghost use Rattle.dy_parse.specs.Limits as limits;
 ghost use Rattle.dy_parse.specs.Mirrors.Limits.{first_of};
 
 use crate::errors::LimitName;
+use dy_grammar::MAX_LEVEL;
+use dy_term::limits::MAX_LENGTH;
 
 impl LimitName {
     /// The limit's number in the language's table.
@@ -35,11 +37,12 @@ impl LimitName {
         ensures { result ≡ limits.most self }
     {
         match self {
-            LimitName::Word | LimitName::Text => 32,
+            LimitName::Word | LimitName::Text => MAX_LENGTH,
             LimitName::Names => 7,
             LimitName::Partners => 8,
             LimitName::Fields | LimitName::Leaves | LimitName::Rows => 16,
-            LimitName::Nesting | LimitName::Statements | LimitName::Principals => 64,
+            LimitName::Nesting => usize::from(MAX_LEVEL),
+            LimitName::Statements | LimitName::Principals => 64,
             LimitName::Usages
             | LimitName::Events
             | LimitName::States

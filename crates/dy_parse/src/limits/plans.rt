@@ -61,7 +61,7 @@ fn note_action(action: &Action, first: &mut First)
     match action {
         Action::Start { args, .. } => note_fields(args.as_slice(), first),
         Action::Corrupt { .. } | Action::Forge => {}
-        Action::Inject(recipe) => note_recipe(64, recipe, first),
+        Action::Inject(recipe) => note_recipe(LimitName::Nesting.most(), recipe, first),
     }
 }
 
@@ -97,7 +97,7 @@ fn note_steps(rounds: &[Round], first: &mut First)
     ensures { first_of first.new ≡ note_all (limits.counts LimitName.Steps
         (flat_map (λ round. map (λ step. step.line) round.steps) (map round_of rounds.now))) (first_of first.old) }
 {
-    let steps = count_each(rounds, Count::Room(1024));
+    let steps = count_each(rounds, Count::Room(LimitName::Steps.most()));
     note_count(LimitName::Steps, steps, first);
 }
 
@@ -108,7 +108,7 @@ fn note_principals(alloc: Global, rounds: &[Round], first: &mut First) -> Result
         (map (λ id. id.line) (limits.others [] (limits.principals_in (map round_of rounds.now)))))
         (first_of first.old)) }
 {
-    let principals = count_principals(alloc, rounds, 64)?;
+    let principals = count_principals(alloc, rounds, LimitName::Principals.most())?;
     note_count(LimitName::Principals, principals, first);
     Ok(())
 }

@@ -1,4 +1,5 @@
 use Rattle.std.proofs.Common.{◌≡◌, ℕ, zero, suc, List, [], ◌∷◌, length, take, min, ap, ◌∙◌, arith}
+use Rattle.dy_term.specs.declared.limits.TheConstants.{MAX_LENGTH}
 use Rattle.dy_parse.proofs.cursor.prefix.Goals as goal
 
 -- as many elements as there are, where there are fewer
@@ -10,4 +11,4 @@ take-min (suc n) (x ∷ xs) =
     ap (λ k. take k (x ∷ xs)) one ∙ ap (λ (ys : List ℕ). x ∷ ys) (take-min n xs)
 
 pub returns : goal.returns
-returns c = ap (λ k. take k c.args.bytes.now) c.min.ensures ∙ take-min 32 c.args.bytes.now
+returns c = ap (λ k. take k c.args.bytes.now) c.min.ensures ∙ take-min MAX_LENGTH c.args.bytes.now

@@ -1,16 +1,16 @@
-use Rattle.std.proofs.Common.{◌≡◌, ℕ, ◌+◌, true, false, List, [], ◌∷◌, ◌++◌, Option, Some, None, map, refl, sym, ◌∙◌, ap, rules}
+use Rattle.std.proofs.Common.{◌≡◌, ◌+◌, [], ◌∷◌, ◌++◌, None, map, refl, sym, ◌∙◌, ap, rules}
 use Rattle.std.specs.Prelude.{codes}
 use Rattle.std.proofs.lemmas.List.{map_push}
 use Rattle.std.proofs.lemmas.Result.{err_from_is_err_and}
-use Rattle.dy_lex.specs.Tokens.{Piece, piece_of}
+use Rattle.dy_lex.specs.Tokens.{piece_of}
 use Rattle.dy_syntax.specs.Expressions as e
 use Rattle.dy_syntax.specs.Meaning.{expr_of, quote_of}
-use Rattle.dy_grammar.specs.Terminals.{AText, token_value}
+use Rattle.dy_grammar.specs.Terminals.{AText}
 use Rattle.dy_grammar.specs.Parts.{AnExpr}
 use Rattle.dy_grammar.specs.Grammar as table
 use Rattle.dy_grammar.specs.Mirrors.Machine.{after_first, built, by_these, token_value_if}
 use Rattle.dy_parse.specs.declared.lists.Rest.TheVariants as rests
-use Rattle.dy_parse.specs.Mirrors.Lists.{after_mark, rest_at, prefixed}
+use Rattle.dy_parse.specs.Mirrors.Lists.{after_mark, rest_at, with_prefix}
 use Rattle.dy_parse.proofs.Grammars.Lists.{ends_with, goes_on, fails_with, next_shorter}
 use Rattle.dy_parse.proofs.Grammars.Choice.{this_rule, later_rules, kept_some, kept_none, gives_expr}
 use Rattle.dy_parse.proofs.expressions.+expression.Goals as goal
@@ -19,12 +19,12 @@ use Rattle.dy_parse.proofs.expressions.+expression.Goals as goal
 
 pub more_exprs-returns-in-Some : goal.more_exprs-returns-in-Some
 more_exprs-returns-in-Some t c =
-    let total = prefixed (map expr_of c.args.prefix.items) (rest_at rests.Parentheses (AnExpr c.args.level) c.args.tokens.now) in
+    let total = with_prefix (map expr_of c.args.prefix.items) (rest_at rests.Parentheses (AnExpr c.args.level) c.args.tokens.now) in
     ends_with rests.Parentheses (AnExpr c.args.level) total (map expr_of c.items.found.items) c.items.left c.items.invariant c.in-Some.rest (search rules)
 
 pub more_exprs-returns-in_err-item : goal.more_exprs-returns-in_err-item
 more_exprs-returns-in_err-item t c =
-    let total = prefixed (map expr_of c.args.prefix.items) (rest_at rests.Parentheses (AnExpr c.args.level) c.args.tokens.now) in
+    let total = with_prefix (map expr_of c.args.prefix.items) (rest_at rests.Parentheses (AnExpr c.args.level) c.args.tokens.now) in
     let p = err_from_is_err_and c.from_residual.result c.from_residual.ensures.1 in
     let open_ : after_mark (codes ")") c.items.left ≡ None = search rules in
     rw (p.1, p.2) (fails_with rests.Parentheses (AnExpr c.args.level) total (map expr_of c.items.found.items) c.items.left c.items.invariant c.in_err-item.field-0.0 open_ c.in_err-item.ensures)
@@ -34,7 +34,7 @@ more_exprs-items-smaller t c = next_shorter rests.Parentheses (AnExpr c.args.lev
 
 pub more_exprs-items-preserved : goal.more_exprs-items-preserved
 more_exprs-items-preserved t c =
-    let total = prefixed (map expr_of c.args.prefix.items) (rest_at rests.Parentheses (AnExpr c.args.level) c.args.tokens.now) in
+    let total = with_prefix (map expr_of c.args.prefix.items) (rest_at rests.Parentheses (AnExpr c.args.level) c.args.tokens.now) in
     let open_ : after_mark (codes ")") c.items.left ≡ None = search rules in
     let more : c.push.new.self.items ≡ c.items.found.items ++ c.in_ok-item.item ∷ [] = c.in_ok-push.ensures.items in
     let pushed : map expr_of c.push.new.self.items ≡ map expr_of c.items.found.items ++ expr_of c.in_ok-item.item ∷ [] = ap (map expr_of) more ∙ map_push expr_of c.items.found.items c.in_ok-item.item in

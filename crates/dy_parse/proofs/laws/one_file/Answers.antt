@@ -1,4 +1,4 @@
-use Rattle.std.proofs.Common.{sym, subst}
+use Rattle.std.proofs.Common.{subst}
 use Rattle.std.specs.Prelude.{List}
 use Rattle.dy_lex.specs.Tokens.{Piece}
 use Rattle.dy_grammar.specs.Files.{IsFile, with_end}

@@ -1,5 +1,5 @@
-use Rattle.std.proofs.Common.{subst, sym, inl, inr, ◌∙◌}
-use Rattle.std.specs.Prelude.{ℕ, List}
+use Rattle.std.proofs.Common.{subst, inl, inr}
+use Rattle.std.specs.Prelude.{List}
 use Rattle.dy_lex.specs.Tokens.{Piece}
 use Rattle.dy_syntax.specs.Files.{File}
 use Rattle.dy_grammar.specs.Files.{IsFile, IsFaultOn, with_end}

@@ -1,8 +1,8 @@
-use Rattle.std.proofs.Common.{◌≡◌, ℕ, ◌+◌, [], None, sym, ◌∙◌, ap, subst}
+use Rattle.std.proofs.Common.{◌≡◌, ℕ, [], None, sym, ◌∙◌, ap, subst}
 use Rattle.std.specs.Prelude.{Ok, Err}
 use Rattle.std.specs.List.{flat_map}
 use Rattle.std.proofs.lemmas.Result.{IfOk-weaker}
-use Rattle.dy_lex.specs.Tokens.{newlines, pieces_of}
+use Rattle.dy_lex.specs.Tokens.{pieces_of}
 use Rattle.dy_syntax.specs.declared.files.File as code
 use Rattle.dy_syntax.specs.Meaning.{file_of}
 use Rattle.dy_grammar.specs.Files.{with_end}

@@ -1,4 +1,4 @@
-use Rattle.std.proofs.Common.{◌≡◌, ◌+◌, true, false, List, [], ◌∷◌, ◌++◌, None, map, refl, sym, ◌∙◌, ap, subst, rules}
+use Rattle.std.proofs.Common.{◌≡◌, ◌+◌, List, [], ◌∷◌, ◌++◌, None, map, refl, sym, ◌∙◌, ap, subst, rules}
 use Rattle.std.specs.Prelude.{codes, Result}
 use Rattle.std.proofs.lemmas.List.{map_push}
 use Rattle.std.proofs.lemmas.Result.{err_from_is_err_and}
@@ -13,19 +13,19 @@ use Rattle.dy_parse.specs.declared.cursor.Fault.{Fault}
 use Rattle.dy_parse.specs.Mirrors.Gives.{Gives}
 use Rattle.dy_grammar.specs.Parts.{ARecipe}
 use Rattle.dy_parse.specs.declared.lists.Rest.TheVariants as rests
-use Rattle.dy_parse.specs.Mirrors.Lists.{after_mark, rest_at, prefixed}
+use Rattle.dy_parse.specs.Mirrors.Lists.{after_mark, rest_at, with_prefix}
 use Rattle.dy_parse.proofs.Grammars.Lists.{ends_with, goes_on, fails_with, next_shorter}
 use Rattle.dy_parse.proofs.Grammars.Choice.{this_rule, later_rules, kept_some}
 use Rattle.dy_parse.proofs.recipes.+recipe.Goals as goal
 
 pub more_recipes-returns-in-Some : goal.more_recipes-returns-in-Some
 more_recipes-returns-in-Some t c =
-    let total = prefixed (map recipe_of c.args.prefix.items) (rest_at rests.Parentheses (ARecipe c.args.level) c.args.tokens.now) in
+    let total = with_prefix (map recipe_of c.args.prefix.items) (rest_at rests.Parentheses (ARecipe c.args.level) c.args.tokens.now) in
     ends_with rests.Parentheses (ARecipe c.args.level) total (map recipe_of c.items.found.items) c.items.left c.items.invariant c.in-Some.rest (search rules)
 
 pub more_recipes-returns-in_err-item : goal.more_recipes-returns-in_err-item
 more_recipes-returns-in_err-item t c =
-    let total = prefixed (map recipe_of c.args.prefix.items) (rest_at rests.Parentheses (ARecipe c.args.level) c.args.tokens.now) in
+    let total = with_prefix (map recipe_of c.args.prefix.items) (rest_at rests.Parentheses (ARecipe c.args.level) c.args.tokens.now) in
     let p = err_from_is_err_and c.from_residual.result c.from_residual.ensures.1 in
     let open_ : after_mark (codes ")") c.items.left ≡ None = search rules in
     rw (p.1, p.2) (fails_with rests.Parentheses (ARecipe c.args.level) total (map recipe_of c.items.found.items) c.items.left c.items.invariant c.in_err-item.field-0.0 open_ c.in_err-item.ensures)
@@ -35,7 +35,7 @@ more_recipes-items-smaller t c = next_shorter rests.Parentheses (ARecipe c.args.
 
 pub more_recipes-items-preserved : goal.more_recipes-items-preserved
 more_recipes-items-preserved t c =
-    let total = prefixed (map recipe_of c.args.prefix.items) (rest_at rests.Parentheses (ARecipe c.args.level) c.args.tokens.now) in
+    let total = with_prefix (map recipe_of c.args.prefix.items) (rest_at rests.Parentheses (ARecipe c.args.level) c.args.tokens.now) in
     let open_ : after_mark (codes ")") c.items.left ≡ None = search rules in
     let more : c.push.new.self.items ≡ c.items.found.items ++ c.in_ok-item.item ∷ [] = c.in_ok-push.ensures.items in
     let pushed : map recipe_of c.push.new.self.items ≡ map recipe_of c.items.found.items ++ recipe_of c.in_ok-item.item ∷ [] = ap (map recipe_of) more ∙ map_push recipe_of c.items.found.items c.in_ok-item.item in

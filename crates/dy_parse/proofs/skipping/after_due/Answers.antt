@@ -1,10 +1,11 @@
-use Rattle.std.proofs.Common.{◌≡◌, [], ◌∷◌, ap, sym, ◌∙◌}
+use Rattle.std.proofs.Common.{[], ◌∷◌, ap, sym, ◌∙◌}
 use Rattle.std.specs.Prelude.{codes}
 use Rattle.dy_lex.specs.declared.tokens.TokenKind.TheVariants.{Symbol}
-use Rattle.dy_lex.specs.Tokens.{Piece, piece_of}
+use Rattle.dy_lex.specs.Tokens.{piece_of}
+use Rattle.dy_grammar.specs.declared.limits.TheConstants.{TOO_DEEP}
 use Rattle.dy_grammar.specs.Terminals.{This, accepts}
 use Rattle.dy_grammar.specs.Tables.{part}
-use Rattle.dy_grammar.specs.Parts.{Item, ANm, AnExpr, ARecipe, Parenthesis, MoreTo}
+use Rattle.dy_grammar.specs.Parts.{ANm, AnExpr, ARecipe, Parenthesis, MoreTo}
 use Rattle.dy_grammar.specs.Grammar.{Syms}
 use Rattle.std.specs.Prelude.{Option}
 use Rattle.dy_parse.specs.Mirrors.Skipping.{items_for}
@@ -26,8 +27,8 @@ returns-in-Exprs-clause-more c =
     let item = c.after_expr-in-Exprs.ensures.more in
     rw c.in-Exprs.is
     (c.items-in-Exprs.ensures.more
-    ∙ ap (λ (o : Option Syms). items_for (accepts (This Symbol (codes ")")) t) o (part (MoreTo Parenthesis (AnExpr 65)) ∷ [])) item
-    ∙ sym (commas_more (AnExpr 65) t))
+    ∙ ap (λ (o : Option Syms). items_for (accepts (This Symbol (codes ")")) t) o (part (MoreTo Parenthesis (AnExpr TOO_DEEP)) ∷ [])) item
+    ∙ sym (commas_more (AnExpr TOO_DEEP) t))
 
 pub returns-in-Recipes-clause-more : goal.returns-in-Recipes-clause-more
 returns-in-Recipes-clause-more c =
@@ -35,5 +36,5 @@ returns-in-Recipes-clause-more c =
     let item = c.after_recipe-in-Recipes.ensures.more in
     rw c.in-Recipes.is
     (c.items-in-Recipes.ensures.more
-    ∙ ap (λ (o : Option Syms). items_for (accepts (This Symbol (codes ")")) t) o (part (MoreTo Parenthesis (ARecipe 65)) ∷ [])) item
-    ∙ sym (commas_more (ARecipe 65) t))
+    ∙ ap (λ (o : Option Syms). items_for (accepts (This Symbol (codes ")")) t) o (part (MoreTo Parenthesis (ARecipe TOO_DEEP)) ∷ [])) item
+    ∙ sym (commas_more (ARecipe TOO_DEEP) t))

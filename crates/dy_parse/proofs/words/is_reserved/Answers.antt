@@ -1,4 +1,4 @@
-use Rattle.std.proofs.Common.{◌≡◌, ◌≤◌, length, sym, ◌∙◌, arith}
+use Rattle.std.proofs.Common.{sym, ◌∙◌, arith}
 use Rattle.dy_parse.proofs.Reserved.{by_length, of_no_length}
 use Rattle.dy_parse.proofs.words.is_reserved.Goals as goal
 

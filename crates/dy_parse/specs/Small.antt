@@ -1,4 +1,0 @@
-pub mod Forms
-pub mod Grammar
-pub mod Reading
-pub mod Files

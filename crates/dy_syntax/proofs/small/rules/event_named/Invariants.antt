@@ -1,8 +1,0 @@
-use Rattle.std.proofs.Common.{◌≡◌, map, drop}
-use Rattle.dy_syntax.specs.Small.Meaning.{decl_of}
-use Rattle.dy_syntax.specs.Small.Rules.{event_named}
-use Rattle.dy_syntax.proofs.small.rules.event_named.Given as goal
-
--- the event is not among the declarations so far
-abbrev pub invariant-loop-decl : goal.invariant-loop-decl
-invariant-loop-decl l = event_named (map decl_of (drop l.decl-index l.decls)) l.name ≡ event_named (map decl_of l.decls) l.name
