@@ -1,0 +1,17 @@
+pub mod Elements
+pub mod ValueLaws
+pub mod Meets
+pub mod Known
+pub mod Order
+pub mod StrongerClaims
+pub mod Expressions
+pub mod Conditions
+pub mod Splits
+pub mod Places
+pub mod Numbering
+pub mod Strongest
+pub mod Facts
+pub mod Values
+pub mod Guards
+pub mod Changes
+pub mod Effects

@@ -1,0 +1,9 @@
+pub mod Names
+pub mod Instances
+pub mod Knowledge
+pub mod Expressions
+pub mod Demands
+pub mod Conditions
+pub mod Effects
+pub mod Typing
+pub mod Strongest
