@@ -1,3 +1,12 @@
-pub mod Partners
-pub mod Small
-pub mod Typing
+pub mod Range
+pub mod Tables
+pub mod Meaning
+pub mod MirrorNames
+pub mod MirrorUnmet
+pub mod MirrorOpenings
+pub mod MirrorReadings
+pub mod MirrorEvents
+pub mod MirrorHandlers
+pub mod MirrorKeys
+pub mod OperationsMeaning
+pub mod MirrorMembers

@@ -1,9 +1,18 @@
-//! Decides whether each event of a protocol file stands behind its partners, and says what follows for its interleavings.
+//! Decides whether a protocol file is typed, and names the place where it is refused.
 #![tactic(auto)]
 
 mod checking;
-mod laws;
-mod partners;
+mod conditions;
+mod effects;
+mod expressions;
+mod handlers;
+mod knowledge;
+mod labels;
+mod limits;
+mod operations;
+mod settings;
+mod stands;
+mod types;
 
 pub use checking::{Verdict, check};
-pub use laws::{one_verdict, typed_keeps_order};
+pub use limits::MAX_MEMBERS;

@@ -1,5 +1,0 @@
-use Rattle.std.proofs.Common.{length}
-use Rattle.dy_check.proofs.partners.+argument_for.Given as goal
-
-abbrev pub decreases-argument_for : goal.decreases-argument_for
-decreases-argument_for l = length l.params.now
