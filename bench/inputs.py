@@ -47,6 +47,30 @@ def many_handlers():
     return filled(handlers(f'{" " * 17}send "{text}";\n'))
 
 
+def typed_statements():
+    """Handlers of 64 statements that open, verify and compare, with labels of 16 leaves, 16 fields and 7 names."""
+    label = "join(a, join(b, " * 7 + "join(a, b)" + "))" * 7
+    fields = ", ".join(f"x{number}: upto {label}" for number in range(16))
+    anything = ", ".join(f"x{number}: any" for number in range(16))
+    declarations = (
+        "usage aead Box(a, b);\nusage sig Sign(owner);\n"
+        f'case Box "t"({fields});\ncase Sign "s"({anything});\n'
+        "state Shared lasting (k: key join(self, b) Box(self, b), b: name);\n"
+    )
+
+    def step(number):
+        opened, signed = ([f"{word}{number}_{place}" for place in range(16)] for word in "xy")
+        return (
+            f'open m with k using Box(self, b) as "t"({", ".join(opened)}) ad "";\n'
+            f'verify m with v using Sign(b) as "s"({", ".join(signed)});\n'
+            f"same {opened[0]} {signed[0]};\n"
+        )
+
+    body = "use Shared(k, =b);\nfind Sign of b as v;\n" + "".join(map(step, range(20))) + "send m;\n" * 2
+    heads = (f"handler H{number} args(b, c, d, e, f, g) recv m {{\n" for number in range(256))
+    return filled((declarations, *(f"{head}{body}}}\n" for head in heads)))
+
+
 def long_plan():
     recipe = '"t"(' + ", ".join([f'pair("{"a" * 20}", hash("{"b" * 20}"))'] * 16) + ")"
     steps = (f"s{number}: inject {recipe};\n" for number in range(1024))
@@ -62,6 +86,7 @@ INPUTS = {
     "deep expressions": deep_expressions,
     "many variables": many_variables,
     "many handlers": many_handlers,
+    "typed statements": typed_statements,
     "one long plan": long_plan,
     "past a limit": past_a_limit,
 }

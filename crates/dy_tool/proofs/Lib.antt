@@ -1,5 +1,7 @@
 pub mod Words
-pub mod DueCases
 pub mod Owed
 pub mod OneInput
 pub mod OneDue
+pub mod Within
+pub mod ShortFiles
+pub mod ReadBack

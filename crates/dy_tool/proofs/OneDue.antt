@@ -1,24 +1,30 @@
 -- For one input one status and one text are due.
 use Rattle.std.proofs.Common.{◌≡◌, ◌≢◌, ℕ, List, length, Some, None, subst, sym, refl, ap, ◌∙◌, ◌⊎◌, inl, inr, arith}
-use Rattle.dy_syntax.specs.Files.{File}
-use Rattle.dy_syntax.specs.Small.Files.{FileText, handlers_in}
-use Rattle.dy_parse.specs.Small.Files as small
+use Rattle.dy_syntax.specs.Files.{File, Decl}
+use Rattle.dy_syntax.specs.Rules.{IsWellFormed}
+use Rattle.dy_parse.specs.Reading.{Reads}
 use Rattle.dy_show.specs.Canonical.{canon}
-use Rattle.dy_check.specs.Typing.{IsTyped, IsRefused}
+use Rattle.dy_cases.specs.DeclaredParts.{handlers_in}
+use Rattle.dy_typing.specs.Typing.{AreTyped, IsRefusedAt}
 use Rattle.dy_tool.specs.declared.commands.Command.{Command}
 use Rattle.dy_tool.specs.declared.commands.Command.TheVariants.{Check, Show}
 use Rattle.dy_tool.specs.declared.statuses.Status.{Status}
 use Rattle.dy_tool.specs.declared.statuses.Status.TheVariants.{Done, NotAccepted, Words, Input, ReadFault, WriteFault, Memory, TooLong}
 use Rattle.dy_tool.specs.Texts.{accepted_text, refused_text, bad_words}
-use Rattle.dy_tool.specs.Due.{check_words, show_words, AreRefused, IsNamed, IsSmall, IsRefusedInput, IsDue, IsDueBy, IsDueByCheck, IsDueByShow}
+use Rattle.dy_tool.specs.Protocols.{IsProtocol}
+use Rattle.dy_tool.specs.Due.{check_words, show_words, AreRefused, IsNamed, IsTyped, IsRefusedFile, IsRefusedInput, IsDue, IsDueBy, IsDueByCheck, IsDueByShow}
 use Rattle.dy_tool.proofs.OneInput.{ReadingLaws, no_fault, one_fault_text}
 
 -- the laws of the crates below
 pub record Laws : Type 0 where
   pub reading : ReadingLaws
-  pub one_small : (bytes : List ℕ) (a b : FileText) → small.Reads bytes a → small.Reads bytes b → a ≡ b
-  pub typed : (file : FileText) (line field : ℕ) → IsTyped file → IsRefused file line field → ⊥
-  pub place : (file : FileText) (line field other_line other_field : ℕ) → IsRefused file line field → IsRefused file other_line other_field → (line ≡ other_line) × (field ≡ other_field)
+  pub untyped : (decls : List Decl) (line condition field : ℕ) → IsRefusedAt decls line condition field → AreTyped decls (handlers_in decls) → ⊥
+  pub place : (decls : List Decl) (line condition field other_line other_condition other_field : ℕ) → IsRefusedAt decls line condition field → IsRefusedAt decls other_line other_condition other_field → (line ≡ other_line) × (condition ≡ other_condition) × (field ≡ other_field)
+
+-- the text names a place by its three numbers
+same_place : (line condition field other_line other_condition other_field : ℕ) → line ≡ other_line → condition ≡ other_condition → field ≡ other_field → refused_text line condition field ≡ refused_text other_line other_condition other_field
+same_place line condition field other_line other_condition other_field same_line same_condition same_field =
+    ap (λ l. refused_text l condition field) same_line ∙ ap (λ k. refused_text other_line k field) same_condition ∙ ap (λ n. refused_text other_line other_condition n) same_field
 
 module _ (laws : Laws) (bytes : List ℕ) where
   -- the same status and the same text
@@ -28,57 +34,52 @@ module _ (laws : Laws) (bytes : List ℕ) where
   turned : {status other : Status} {text other_text : List ℕ} → Same other other_text status text → Same status text other other_text
   turned same = (sym same.0, sym same.1)
 
-  one_small : (a b : FileText) → IsSmall bytes a → IsSmall bytes b → a ≡ b
-  one_small a b in_a in_b = laws.one_small bytes a b in_a.reads in_b.reads
+  one_file : (a b : File) → Reads bytes a → Reads bytes b → a ≡ b
+  one_file a b in_a in_b = laws.reading.one_file bytes a b in_a in_b
 
-  -- a file that is checked is neither faulty nor one that is not built
-  no_input : (file : FileText) (text : List ℕ) → IsSmall bytes file → IsDueByCheck bytes Input text → ⊥
-  no_input file text checked due =
-      elim due.1 [
-        | inl faulty ↦ no_fault laws.reading bytes checked.protocol.0 faulty.0 checked.protocol.1 faulty.1
-        | inr unbuilt ↦ unbuilt.0.other file checked
-      ]
+  -- a file that is decided has no fault
+  no_input : (file : File) (text : List ℕ) → Reads bytes file → IsWellFormed file → IsDueByCheck bytes Input text → ⊥
+  no_input file text reads well_formed due =
+      let protocol : IsProtocol bytes file = record { reads = reads; well_formed = well_formed } in
+      no_fault laws.reading bytes file due.1.0 protocol due.1.1
 
   -- where the file is accepted
   when_done : (text : List ℕ) (other : Status) (other_text : List ℕ) → IsDueByCheck bytes Done text → IsDueByCheck bytes other other_text → Same Done text other other_text
   when_done text Done other_text due due_other =
-      let same = one_small due.0 due_other.0 due.1 due_other.1 in
-      (refl, due.3 ∙ ap (λ (file : FileText). accepted_text (length (handlers_in file.decls))) same ∙ sym due_other.3)
+      let same = one_file due.0 due_other.0 due.1 due_other.1 in
+      (refl, due.3 ∙ ap (λ (file : File). accepted_text (length (handlers_in file.decls))) same ∙ sym due_other.3)
   when_done text NotAccepted other_text due due_other =
-      let same = one_small due.0 due_other.0 due.1 due_other.3 in
-      absurd (laws.typed due_other.0 due_other.1 due_other.2 (subst IsTyped same due.2) due_other.4)
+      let same = one_file due.0 due_other.0 due.1 due_other.4 in
+      let typed : IsTyped due_other.0 = subst IsTyped same due.2 in
+      absurd (laws.untyped due_other.0.decls due_other.1 due_other.2 due_other.3 due_other.5.1 typed.1)
   when_done text Words other_text due due_other = absurd due_other
-  when_done text Input other_text due due_other = absurd (no_input due.0 other_text due.1 due_other)
+  when_done text Input other_text due due_other = absurd (no_input due.0 other_text due.1 due.2.0 due_other)
   when_done text ReadFault other_text due due_other = absurd due_other
   when_done text WriteFault other_text due due_other = absurd due_other
   when_done text Memory other_text due due_other = absurd due_other
-  when_done text TooLong other_text due due_other = absurd (omega (arith, due.1.reads.few, due_other.0))
+  when_done text TooLong other_text due due_other = absurd (omega (arith, due.1.few, due_other.0))
 
   -- where a place is refused
   when_refused : (text : List ℕ) (other : Status) (other_text : List ℕ) → IsDueByCheck bytes NotAccepted text → IsDueByCheck bytes other other_text → Same NotAccepted text other other_text
   when_refused text Done other_text due due_other = turned (when_done other_text NotAccepted text due_other due)
   when_refused text NotAccepted other_text due due_other =
-      let same = one_small due.0 due_other.0 due.3 due_other.3 in
-      let place = laws.place due_other.0 due.1 due.2 due_other.1 due_other.2 (subst (λ (file : FileText). IsRefused file due.1 due.2) same due.4) due_other.4 in
-      (refl, due.5 ∙ ap (λ line. refused_text line 6 due.2) place.0 ∙ ap (λ field. refused_text due_other.1 6 field) place.1 ∙ sym due_other.5)
+      let same = one_file due.0 due_other.0 due.4 due_other.4 in
+      let refused : IsRefusedFile due_other.0 due.1 due.2 due.3 = subst (λ (file : File). IsRefusedFile file due.1 due.2 due.3) same due.5 in
+      let place = laws.place due_other.0.decls due.1 due.2 due.3 due_other.1 due_other.2 due_other.3 refused.1 due_other.5.1 in
+      (refl, due.6 ∙ same_place due.1 due.2 due.3 due_other.1 due_other.2 due_other.3 place.0 place.1 place.2 ∙ sym due_other.6)
   when_refused text Words other_text due due_other = absurd due_other
-  when_refused text Input other_text due due_other = absurd (no_input due.0 other_text due.3 due_other)
+  when_refused text Input other_text due due_other = absurd (no_input due.0 other_text due.4 due.5.0 due_other)
   when_refused text ReadFault other_text due due_other = absurd due_other
   when_refused text WriteFault other_text due due_other = absurd due_other
   when_refused text Memory other_text due due_other = absurd due_other
-  when_refused text TooLong other_text due due_other = absurd (omega (arith, due.3.reads.few, due_other.0))
+  when_refused text TooLong other_text due due_other = absurd (omega (arith, due.4.few, due_other.0))
 
   -- where the input is refused
   when_input : (text : List ℕ) (other : Status) (other_text : List ℕ) → IsDueByCheck bytes Input text → IsDueByCheck bytes other other_text → Same Input text other other_text
   when_input text Done other_text due due_other = turned (when_done other_text Input text due_other due)
   when_input text NotAccepted other_text due due_other = turned (when_refused other_text Input text due_other due)
   when_input text Words other_text due due_other = absurd due_other
-  when_input text Input other_text due due_other = (refl, one_text due.1 due_other.1) where
-    one_text : IsRefusedInput bytes text → IsRefusedInput bytes other_text → text ≡ other_text
-    one_text (inl faulty) (inl also) = one_fault_text laws.reading bytes text other_text faulty also
-    one_text (inl faulty) (inr unbuilt) = absurd (no_fault laws.reading bytes unbuilt.0.protocol.0 faulty.0 unbuilt.0.protocol.1 faulty.1)
-    one_text (inr unbuilt) (inl faulty) = absurd (no_fault laws.reading bytes unbuilt.0.protocol.0 faulty.0 unbuilt.0.protocol.1 faulty.1)
-    one_text (inr unbuilt) (inr also) = unbuilt.1 ∙ sym also.1
+  when_input text Input other_text due due_other = (refl, one_fault_text laws.reading bytes text other_text due.1 due_other.1)
   when_input text ReadFault other_text due due_other = absurd due_other
   when_input text WriteFault other_text due due_other = absurd due_other
   when_input text Memory other_text due due_other = absurd due_other

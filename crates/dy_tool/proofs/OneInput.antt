@@ -1,5 +1,5 @@
 -- An input is one protocol, or it has one fault.
-use Rattle.std.proofs.Common.{◌≡◌, ℕ, ◌≤◌, List, subst, sym, refl, ap, ◌∙◌, arith}
+use Rattle.std.proofs.Common.{◌≡◌, ℕ, List, subst, sym, ap, ◌∙◌, arith}
 use Rattle.dy_syntax.specs.Files.{File}
 use Rattle.dy_syntax.specs.Rules.{Breaks, IsFirst}
 use Rattle.dy_parse.specs.declared.errors.LimitName.{LimitName}

@@ -1,63 +1,49 @@
 -- Which status and which text are due, for the words and for the bytes that the source has.
-use Rattle.std.specs.Prelude.{◌≡◌, ◌≢◌, ℕ, ◌<◌, ◌≤◌, ◌⊎◌, true, List, [], ◌∷◌, length, map, codes, Option, Some, None, String, string_bytes}
+use Rattle.std.specs.Prelude.{◌≡◌, ◌≢◌, ℕ, ◌<◌, ◌≤◌, List, [], ◌∷◌, length, map, codes, Option, Some, None, String, string_bytes}
 use Rattle.std.specs.declared.alloc.Global.{Global}
 use Rattle.dy_lex.specs.declared.limits.TheConstants.{MAX_SOURCE_BYTES}
 use Rattle.dy_syntax.specs.Files.{File}
-use Rattle.dy_syntax.specs.Small.Files.{FileText, handlers_in}
-use Rattle.dy_syntax.specs.Small.Rules.{is_well_formed}
-use Rattle.dy_parse.specs.Small.Files as small
+use Rattle.dy_syntax.specs.Rules.{IsWellFormed}
+use Rattle.dy_parse.specs.Reading.{Reads}
 use Rattle.dy_show.specs.Canonical.{canon}
-use Rattle.dy_check.specs.Small.{Entry, Interleaves, KeepsOrder}
-use Rattle.dy_check.specs.Typing.{IsTyped, IsRefused}
+use Rattle.dy_cases.specs.DeclaredParts.{handlers_in}
+use Rattle.dy_typing.specs.Typing.{AreTyped, IsRefusedAt}
 use Rattle.dy_tool.specs.declared.commands.Command.{Command}
 use Rattle.dy_tool.specs.declared.commands.Command.TheVariants.{Check, Show}
 use Rattle.dy_tool.specs.declared.statuses.Status.{Status}
 use Rattle.dy_tool.specs.declared.statuses.Status.TheVariants.{Done, NotAccepted, Words, Input, ReadFault, WriteFault, Memory, TooLong}
-use Rattle.dy_tool.specs.Texts.{accepted_text, refused_text, bad_words, not_built, too_long}
+use Rattle.dy_tool.specs.Texts.{accepted_text, refused_text, bad_words, too_long}
 use Rattle.dy_tool.specs.Protocols.{IsProtocol, HasFault, fault_text}
 use Rattle.dy_tool.specs.declared.protocols.InputFault.{InputFault}
 
--- the bytes are some protocol
-abbrev pub IsSomeProtocol : List ℕ → Type 0
-IsSomeProtocol bytes = (file : File) × IsProtocol bytes file
+-- A file is typed when it is well formed and each of its handlers has a derivation.
+abbrev pub IsTyped : File → Type 0
+IsTyped file = IsWellFormed file × AreTyped file.decls (handlers_in file.decls)
 
--- The bytes are this protocol of events and sends. Such protocols alone are checked so far.
-pub record IsSmall (bytes : List ℕ) (file : FileText) : Type 0 where
-  pub protocol : IsSomeProtocol bytes
-  pub reads : small.Reads bytes file
-  pub well_formed : is_well_formed file ≡ true
-
--- In every interleaving of a file that the bytes are, each event stands after its partners.
-abbrev pub OrderIsKept : List ℕ → Type 0
-OrderIsKept bytes = (file : FileText) (T : List Entry) →
-    IsSmall bytes file → Interleaves bytes file T → KeepsOrder file.decls T
-
--- a protocol that is not checked so far
-pub record IsUnbuilt (bytes : List ℕ) : Type 0 where
-  pub protocol : IsSomeProtocol bytes
-  pub other : (file : FileText) → IsSmall bytes file → ⊥
+-- A file is refused at a place when it is well formed and its typing fails there.
+abbrev pub IsRefusedFile : File → (line condition field : ℕ) → Type 0
+IsRefusedFile file line condition field = IsWellFormed file × IsRefusedAt file.decls line condition field
 
 -- a fault of the input, with its text
 abbrev pub IsFaulty : List ℕ → List ℕ → Type 0
 IsFaulty bytes text = (fault : InputFault) × HasFault bytes fault × (text ≡ fault_text fault)
 
+-- bytes that are no protocol, with the text for them
+abbrev pub IsRefusedInput : List ℕ → List ℕ → Type 0
+IsRefusedInput bytes text = (length bytes ≤ MAX_SOURCE_BYTES) × IsFaulty bytes text
+
 -- more bytes than a source may have
 abbrev pub IsTooLong : List ℕ → List ℕ → Type 0
 IsTooLong bytes text = (MAX_SOURCE_BYTES < length bytes) × (text ≡ too_long)
 
--- the text for an input that `check` refuses
-abbrev pub IsRefusedInput : List ℕ → List ℕ → Type 0
-IsRefusedInput bytes text = IsFaulty bytes text ⊎ (IsUnbuilt bytes × (text ≡ not_built))
-
--- what `check` is to answer for these bytes
+-- what `check` is to answer: the verdict on the file
 abbrev pub IsDueByCheck : List ℕ → Status → List ℕ → Type 0
 IsDueByCheck bytes Done text =
-    (file : FileText) × IsSmall bytes file × IsTyped file × (text ≡ accepted_text (length (handlers_in file.decls)))
+    (file : File) × Reads bytes file × IsTyped file × (text ≡ accepted_text (length (handlers_in file.decls)))
 IsDueByCheck bytes NotAccepted text =
-    (file : FileText) × (line : ℕ) × (field : ℕ) × IsSmall bytes file × IsRefused file line field
-    × (text ≡ refused_text line 6 field)
-IsDueByCheck bytes Input text =
-    (length bytes ≤ MAX_SOURCE_BYTES) × IsRefusedInput bytes text
+    (file : File) × (line : ℕ) × (condition : ℕ) × (field : ℕ) × Reads bytes file
+    × IsRefusedFile file line condition field × (text ≡ refused_text line condition field)
+IsDueByCheck bytes Input text = IsRefusedInput bytes text
 IsDueByCheck bytes TooLong text = IsTooLong bytes text
 IsDueByCheck bytes Words text = ⊥
 IsDueByCheck bytes ReadFault text = ⊥
@@ -67,7 +53,7 @@ IsDueByCheck bytes Memory text = ⊥
 -- what `show` is to answer: the canonical text of the file
 abbrev pub IsDueByShow : List ℕ → Status → List ℕ → Type 0
 IsDueByShow bytes Done text = (file : File) × IsProtocol bytes file × (text ≡ canon file)
-IsDueByShow bytes Input text = (length bytes ≤ MAX_SOURCE_BYTES) × IsFaulty bytes text
+IsDueByShow bytes Input text = IsRefusedInput bytes text
 IsDueByShow bytes TooLong text = IsTooLong bytes text
 IsDueByShow bytes NotAccepted text = ⊥
 IsDueByShow bytes Words text = ⊥

@@ -1,5 +1,6 @@
 pub mod Statuses
 pub mod Texts
 pub mod Protocols
+pub mod Showing
 pub mod Due
 pub mod Answers

@@ -32,8 +32,5 @@ rule_text line rule = codes "line " ++ decimal line ++ codes ": rule w" ++ decim
 abbrev pub bad_words : List ℕ
 bad_words = codes "bad words\n"
 
-abbrev pub not_built : List ℕ
-not_built = codes "not built\n"
-
 abbrev pub too_long : List ℕ
 too_long = codes "too long\n"

@@ -14,13 +14,6 @@ pub(crate) struct Answer {
     pub(crate) text: Vec<u8>,
 }
 
-pub(crate) fn answer_not_built(alloc: Global) -> Result<Answer, Memory>
-    ensures { IfOk result (λ a. (a.status ≡ Status.Input) × (a.text.items ≡ texts.not_built)) }
-{
-    let text = String::from_str(alloc, "not built\n")?;
-    Ok(with_text(Status::Input, text))
-}
-
 pub(crate) fn answer_accepted(alloc: Global, handlers: usize) -> Result<Answer, Memory>
     ensures { IfOk result (λ a. (a.status ≡ Status.Done) × (a.text.items ≡ texts.accepted_text handlers)) }
 {

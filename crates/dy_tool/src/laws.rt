@@ -1,11 +1,17 @@
-ghost use Rattle.std.specs.Prelude.{◌≡◌, ℕ, List};
-ghost use Rattle.dy_tool.specs.Due.{IsDue, IsDueByCheck, OrderIsKept};
+ghost use Rattle.std.specs.Prelude.{◌≡◌, ℕ, ◌≤◌, List, length};
+ghost use Rattle.dy_lex.specs.declared.limits.TheConstants.{MAX_SOURCE_BYTES};
+ghost use Rattle.dy_syntax.specs.Files.{File};
+ghost use Rattle.dy_parse.specs.Reading.{Reads};
+ghost use Rattle.dy_show.specs.Canonical.{canon};
+ghost use Rattle.dy_tool.specs.Due.{IsDue};
+ghost use Rattle.dy_tool.specs.Showing.{IsTextOfFile, ReadsBack};
 ghost use Rattle.dy_tool.specs.declared.statuses.Status.{Status};
 
-use dy_check::{one_verdict, typed_keeps_order};
-use dy_parse::{one_file, one_parse, small};
+use dy_parse::{one_file, one_parse, same_limits, trees_are_shallow};
+use dy_show::{one_text, reads_again};
+use dy_typing::one_refused_place;
 
-/// For words and input bytes one status and one text are due, and no others.
+/// For words and input bytes at most one status and one text are due.
 pub fn one_answer()
     ensures { (words : List (List ℕ)) (bytes : List ℕ) (status other : Status) (text other_text : List ℕ) →
         IsDue words bytes status text → IsDue words bytes other other_text →
@@ -13,14 +19,26 @@ pub fn one_answer()
 {
     one_file();
     one_parse();
-    small::one_file();
-    one_verdict();
+    one_refused_place();
 }
 
-/// Where the bytes are to be accepted, each of their interleavings keeps the order of events.
-pub fn accepted_keeps_order()
-    ensures { (bytes text : List ℕ) → IsDueByCheck bytes Status.Done text → OrderIsKept bytes }
+/// Where a source of any length is a file within the limits, and the file's canonical text is not too
+/// long for a source, that text is the same file but for line numbers, within all limits.
+pub fn shown_reads_back()
+    ensures { (source : List ℕ) (file : File) →
+        IsTextOfFile source file → length (canon file) ≤ MAX_SOURCE_BYTES → ReadsBack file }
 {
-    small::one_file();
-    typed_keeps_order();
+    trees_are_shallow();
+    same_limits();
+    reads_again();
+}
+
+/// Where the canonical text of such a file is a file, it is the canonical text of that file too.
+pub fn shown_is_canonical()
+    ensures { (source : List ℕ) (file again : File) →
+        IsTextOfFile source file → Reads (canon file) again → canon again ≡ canon file }
+{
+    shown_reads_back();
+    one_file();
+    one_text();
 }

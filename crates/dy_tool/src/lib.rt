@@ -10,7 +10,7 @@ mod showing;
 mod statuses;
 
 pub use commands::quiet;
-pub use laws::{accepted_keeps_order, one_answer};
+pub use laws::{one_answer, shown_is_canonical, shown_reads_back};
 pub use statuses::Status;
 
 #[cfg(test)]

@@ -10,7 +10,7 @@ pub enum Status {
     NotAccepted,
     /// The words are none that are accepted.
     Words,
-    /// The input is no file of the language, as far as it is built.
+    /// The input is no protocol file.
     Input,
     /// The source failed.
     ReadFault,

@@ -8,6 +8,7 @@ use std::process::Abort;
 use std::test::*;
 
 mod rules;
+mod typing;
 
 /// A job that is opened and closed, once as the protocol says.
 const JOB: &[u8] = b"dystar 1
@@ -18,6 +19,28 @@ handler Job args(b) {
   send \"job\";
   send b;
   event Close(self, b);
+}
+";
+
+/// What is said is signed, and is heard only where it was said. A statement is to stand on line 9.
+const SAY_FIRST: &str = "dystar 1
+usage sig Sign(owner);
+event Said(name a, x);
+event Heard(name b, name a, x) after Said(a, x) unless a;
+case Sign \"say\"(x: any) requires Said(owner, x);
+state Key lasting (k: key self Sign(self));
+handler Say args() recv x {
+  use Key(k);
+  ";
+
+/// What follows that statement.
+const SAY_THEN: &str = "
+  send sign(k using Sign(self), \"say\"(x));
+}
+handler Hear args(a) recv m {
+  find Sign of a as v;
+  verify m with v using Sign(a) as \"say\"(x);
+  event Heard(self, a, x);
 }
 ";
 
@@ -184,14 +207,31 @@ fn what_is_no_protocol_is_refused_at_its_line(rt: HostRuntime) -> Result<(), Fai
 }
 
 #[test]
-fn a_protocol_of_more_than_events_and_sends_is_not_built(rt: HostRuntime) -> Result<(), Fail> {
-    let inputs: [&[u8]; 3] = [
-        b"dystar 1 usage nonce Rand();",
-        b"dystar 1 handler H args() recv m { send m; }",
-        b"dystar 1 handler H args() { send \"a\"(\"b\"); }",
+fn a_protocol_is_typed_or_refused_at_a_place(rt: HostRuntime) -> Result<(), Fail> {
+    let cases: [(&str, Status, &str); 4] = [
+        (
+            "event Said(self, x);",
+            Status::Done,
+            "accepted 2 handlers\n",
+        ),
+        // who signs has not said it
+        (
+            "send x;",
+            Status::NotAccepted,
+            "refused line 10 c5 field 1\n",
+        ),
+        // the key is for `self` alone
+        (
+            "send k;",
+            Status::NotAccepted,
+            "refused line 9 c1 field 0\n",
+        ),
+        // a rule comes before what is typed
+        ("send y;", Status::Input, "line 9: rule w2\n"),
     ];
-    for input in inputs {
-        assert_answers(&rt, input, Status::Input, b"not built\n")?;
+    for (statement, status, text) in cases {
+        let input = format!(in rt.alloc(); "{SAY_FIRST}{statement}{SAY_THEN}")?;
+        assert_answers(&rt, input.as_bytes(), status, text.as_bytes())?;
     }
     Ok(())
 }

@@ -12,5 +12,5 @@ returns c =
       one_bad = c.one_parse.ensures.one_line;
       one_over = c.one_parse.ensures.one_limit;
     } in
-    let laws : Laws = record { reading = reading; one_small = c.one_file-2.ensures; typed = c.one_verdict.ensures.typed; place = c.one_verdict.ensures.place } in
+    let laws : Laws = record { reading = reading; untyped = c.one_refused_place.ensures.untyped; place = c.one_refused_place.ensures.place } in
     λ words bytes status other text other_text. one_due laws bytes words status other text other_text

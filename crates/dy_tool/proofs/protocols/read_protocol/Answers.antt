@@ -1,4 +1,3 @@
-use Rattle.std.proofs.Common.{refl, sym, ap, ◌∙◌}
 use Rattle.dy_tool.proofs.protocols.read_protocol.Goals as goal
 
 pub returns-in-Err-BadLine : goal.returns-in-Err-BadLine
