@@ -1,0 +1,14 @@
+pub mod Drops
+pub mod Matching
+pub mod Rows
+pub mod Sizes
+pub mod TupleFields
+pub mod Counting
+pub mod Found
+pub mod Recalling
+pub mod KnownEffects
+pub mod Asking
+pub mod LinesTaken
+pub mod Walks
+pub mod Indices
+pub mod AskingAgain
