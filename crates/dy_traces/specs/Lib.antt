@@ -1,0 +1,5 @@
+pub mod Steps
+pub mod Instances
+pub mod Following
+pub mod Interleavings
+pub mod Given
