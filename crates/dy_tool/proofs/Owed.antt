@@ -1,5 +1,5 @@
 -- What is owed, and what the sink holds once it is said.
-use Rattle.std.proofs.Common.{◌≡◌, ℕ, ◌+◌, ◌<◌, List, [], length, Option, Some, None, refl, inl, inr, arith}
+use Rattle.std.proofs.Common.{◌≡◌, ℕ, ◌+◌, ◌<◌, List, [], length, Option, Some, None, IfSome, refl, sym, subst, ◌∙◌, inl, inr, arith}
 use Rattle.std.proofs.lemmas.List.{length-append}
 use Rattle.dy_io.specs.Bytes.{Came}
 use Rattle.dy_lex.specs.declared.limits.TheConstants.{MAX_SOURCE_BYTES}
@@ -8,7 +8,7 @@ use Rattle.dy_tool.specs.declared.statuses.Status.TheVariants.{Done, NotAccepted
 use Rattle.dy_tool.specs.Texts.{bad_words, too_long}
 use Rattle.dy_tool.specs.declared.commands.Command.{Command}
 use Rattle.dy_tool.specs.declared.commands.Command.TheVariants.{Check, Show}
-use Rattle.dy_tool.specs.Due.{AreRefused, IsNamed, IsDue, IsDueBy}
+use Rattle.dy_tool.specs.Due.{check_words, show_words, AreRefused, IsNamed, IsDue, IsDueBy, IsDueByCheck}
 use Rattle.dy_tool.specs.Answers.{Owes, Wrote, Leaves, Says}
 
 -- some statuses are due by no command
@@ -65,3 +65,21 @@ said_leaves words left held after faults faults_after status text result owed sa
       | inl whole ↦ rw whole.0 (wrote_leaves words left held after status (record { text = text; owed = owed; written = whole.1 }))
       | inr broken ↦ rw broken.0 (record { status = status; text = text; owed = owed; written = broken.1 })
     ]
+
+-- a text is said with its status, unless writing fails
+pub said_done : (held after : Option (List ℕ)) (faults faults_after : ℕ) (status : Status) (text : List ℕ) (result : Status) → Says held after faults faults_after status text result → result ≡ Done → status ≡ Done
+said_done held after faults faults_after status text result said done =
+    elim said [
+      | inl whole ↦ sym whole.0 ∙ done
+      | inr broken ↦ absurd (let other : WriteFault ≡ Done = sym broken.0 ∙ done in cc)
+    ]
+
+-- what holds of the bytes that came holds of those that were there, where they are told
+pub told_holds : (P : List ℕ → Type 0) (left : Option (List ℕ)) (bytes : List ℕ) → IfSome left (λ all. bytes ≡ all) → P bytes → IfSome left P
+told_holds P None bytes told holds = tt
+told_holds P (Some all) bytes told holds = subst P told holds
+
+-- with the words of `check`, what a command is to answer is what `check` is
+pub due_by_check : (command : Command) (words : List (List ℕ)) (bytes : List ℕ) (status : Status) (text : List ℕ) → IsNamed words (Some command) → words ≡ check_words → IsDueBy command bytes status text → IsDueByCheck bytes status text
+due_by_check Check words bytes status text named is due = due
+due_by_check Show words bytes status text named is due = absurd (let both : check_words ≡ show_words = sym is ∙ named in cc)

@@ -1,12 +1,13 @@
-ghost use Rattle.std.specs.Prelude.{◌≡◌, ◌≢◌, ◌+◌, ◌≤◌, ◌⊎◌, length, IfOk};
+ghost use Rattle.std.specs.Prelude.{◌≡◌, ◌≢◌, ◌+◌, ◌≤◌, ◌⊎◌, length, IfOk, IfSome};
 ghost use Rattle.std.specs.Io.KnownBytes.{Keeps};
 ghost use Rattle.dy_io.specs.Bytes.{CameAtMost};
 ghost use Rattle.dy_io.specs.Faults.{Rose};
 ghost use Rattle.dy_tool.specs.Answers.{Leaves, Says};
-ghost use Rattle.dy_tool.specs.Due.{words_of, AreRefused, IsNamed, IsDueBy};
+ghost use Rattle.dy_tool.specs.Due.{words_of, check_words, AreRefused, IsNamed, IsDueBy, EachInterleavingIsSecure};
 
 use crate::answers::Answer;
 use crate::judging::judge;
+use crate::laws::accepted_files_are_secure;
 use crate::showing::print_canonical;
 use crate::statuses::Status;
 use dy_io::{ReadError, Sink, Source, WriteError, read_all, write_all};
@@ -35,6 +36,10 @@ pub fn quiet<S: Source, K: Sink>(
     // The status and the text are those that are due.
     ensures leaves { Leaves (words_of words.now) (S.left source.old) (K.held sink.old) (K.held sink.new) result }
 
+    // Where `check` is Done, every interleaving of the bytes is secure.
+    ensures secure { words_of words.now ≡ check_words → result ≡ Status.Done →
+        IfSome (S.left source.old) EachInterleavingIsSecure }
+
     // At most one byte past the limit is taken, and that one only where neither reading nor memory failed.
     ensures taken { CameAtMost (MAX_SOURCE_BYTES + 1) (S.left source.old) (S.left source.new) }
     ensures fault_within { result ≡ Status.ReadFault →
@@ -61,7 +66,10 @@ pub fn quiet<S: Source, K: Sink>(
     };
     match read_all(alloc, source, MAX_SOURCE_BYTES) {
         Ok(bytes) => match answer(alloc, command, &bytes) {
-            Ok(answer) => say(sink, answer.status, answer.text.as_slice()),
+            Ok(answer) => {
+                accepted_files_are_secure();
+                say(sink, answer.status, answer.text.as_slice())
+            }
             Err(_) => Status::Memory,
         },
         Err(ReadError::TooLong) => say(sink, Status::TooLong, b"too long\n"),

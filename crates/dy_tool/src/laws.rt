@@ -3,12 +3,13 @@ ghost use Rattle.dy_lex.specs.declared.limits.TheConstants.{MAX_SOURCE_BYTES};
 ghost use Rattle.dy_syntax.specs.Files.{File};
 ghost use Rattle.dy_parse.specs.Reading.{Reads};
 ghost use Rattle.dy_show.specs.Canonical.{canon};
-ghost use Rattle.dy_tool.specs.Due.{IsDue};
+ghost use Rattle.dy_tool.specs.Due.{IsDue, IsDueByCheck, EachInterleavingIsSecure};
 ghost use Rattle.dy_tool.specs.Showing.{IsTextOfFile, ReadsBack};
 ghost use Rattle.dy_tool.specs.declared.statuses.Status.{Status};
 
 use dy_parse::{one_file, one_parse, same_limits, trees_are_shallow};
 use dy_show::{one_text, reads_again};
+use dy_sound::typed_is_secure;
 use dy_typing::one_refused_place;
 
 /// For words and input bytes at most one status and one text are due.
@@ -20,6 +21,14 @@ pub fn one_answer()
     one_file();
     one_parse();
     one_refused_place();
+}
+
+/// Where the bytes are to be accepted, each of their interleavings is secure.
+pub fn accepted_files_are_secure()
+    ensures { (bytes text : List ℕ) → IsDueByCheck bytes Status.Done text → EachInterleavingIsSecure bytes }
+{
+    one_file();
+    typed_is_secure();
 }
 
 /// Where a source of any length is a file within the limits, and the file's canonical text is not too

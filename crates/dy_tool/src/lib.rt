@@ -10,7 +10,7 @@ mod showing;
 mod statuses;
 
 pub use commands::quiet;
-pub use laws::{one_answer, shown_is_canonical, shown_reads_back};
+pub use laws::{accepted_files_are_secure, one_answer, shown_is_canonical, shown_reads_back};
 pub use statuses::Status;
 
 #[cfg(test)]

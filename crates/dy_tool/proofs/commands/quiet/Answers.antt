@@ -1,9 +1,10 @@
-use Rattle.std.proofs.Common.{◌+◌, map, arith}
+use Rattle.std.proofs.Common.{◌+◌, map, subst, arith}
 use Rattle.std.specs.Prelude.{string_bytes}
 use Rattle.dy_lex.specs.declared.limits.TheConstants.{MAX_SOURCE_BYTES}
-use Rattle.dy_tool.specs.Due.{IsDueBy}
+use Rattle.dy_tool.specs.declared.statuses.Status.{Status}
+use Rattle.dy_tool.specs.Due.{IsDueBy, IsDueByCheck, EachInterleavingIsSecure}
 use Rattle.dy_tool.specs.Answers.{Owes}
-use Rattle.dy_tool.proofs.Owed.{due_with, owes_words, owes_too_long, said_leaves}
+use Rattle.dy_tool.proofs.Owed.{due_with, due_by_check, owes_words, owes_too_long, said_leaves, said_done, told_holds}
 use Rattle.dy_tool.proofs.commands.quiet.Goals as goal
 
 pub returns-in_default-clause-leaves : goal.returns-in_default-clause-leaves
@@ -25,6 +26,18 @@ returns-in-Ok-answer-clause-leaves g c =
       due = due_with command words bytes answer.status answer.text.items c.in-Some.ensures judged;
     } in
     said_leaves _ _ _ _ _ _ _ answer.text.items _ owed (rw c.as_slice.ensures.value at c.say-in-Ok-answer.ensures)
+
+pub returns-in-Ok-answer-clause-secure : goal.returns-in-Ok-answer-clause-secure
+returns-in-Ok-answer-clause-secure g c = λ check done.
+    let words = map string_bytes c.args.words.now in
+    let answer = c.in-Ok-answer.answer in
+    let bytes = c.in-Ok.bytes.items in
+    let text = answer.text.items in
+    let command = c.in-Some.command in
+    let judged : IsDueBy command bytes answer.status text = rw c.deref.ensures.value at c.in-Ok-answer.ensures in
+    let by_check = due_by_check command words bytes answer.status text c.in-Some.ensures check judged in
+    let is_done = said_done _ _ _ _ answer.status text _ (rw c.as_slice.ensures.value at c.say-in-Ok-answer.ensures) done in
+    told_holds EachInterleavingIsSecure (g.S.Source.left c.args.source.now) bytes c.in-Ok.ensures.whole (c.accepted_files_are_secure.ensures bytes text (subst (λ (status : Status). IsDueByCheck bytes status text) is_done by_check))
 
 pub returns-in-Err-TooLong-clause-leaves : goal.returns-in-Err-TooLong-clause-leaves
 returns-in-Err-TooLong-clause-leaves g c =
