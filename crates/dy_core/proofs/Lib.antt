@@ -1,0 +1,11 @@
+pub mod Mapped
+pub mod Faults
+pub mod Prefixes
+pub mod Searches
+pub mod Longer
+pub mod Owners
+pub mod StartRules
+pub mod Beginning
+pub mod Removed
+pub mod Stepping
+pub mod Turning

@@ -1,0 +1,24 @@
+use Rattle.std.proofs.Common.{◌≡◌, ◌==◌, List, None, refl, sym, subst}
+use Rattle.std.proofs.Math.Logic.{∥∥₁_elim}
+use Rattle.std.specs.List.{position}
+use Rattle.dy_syntax.specs.Meaning.{file_of}
+use Rattle.dy_entry.specs.declared.entries.Entry as declared
+use Rattle.dy_entry.specs.Meaning.{entries_of}
+use Rattle.dy_traces.specs.Instances.{end_of}
+use Rattle.dy_core.specs.declared.running.Running.{Running}
+use Rattle.dy_core.specs.Answers.{IsInstance}
+use Rattle.dy_core.proofs.Stepping.{none_two}
+use Rattle.dy_core.proofs.Turning.{no_place}
+use Rattle.dy_core.proofs.books.Book.advance.Goals as goal
+
+pub unreachable-requires : goal.unreachable-requires
+unreachable-requires c =
+    let instance = c.args.instance in
+    let stands : IsInstance (entries_of c.args.self.now.entries.items) instance =
+    subst (λ (es : List declared.Entry). IsInstance (entries_of es) instance) c.as_slice.ensures.value (c.if-not-is_instance.ensures.yes refl) in
+    let goes_on : end_of (entries_of c.args.self.now.entries.items) instance ≡ None =
+    subst (λ (es : List declared.Entry). end_of (entries_of es) instance ≡ None) c.as_slice-2.ensures.value (sym c.in_default.ensures) in
+    let none : position (λ (kept : Running). kept.start == instance) c.args.self.now.running.items ≡ None =
+    subst (λ (rs : List Running). position (λ (kept : Running). kept.start == instance) rs ≡ None) c.as_slice-3.ensures.value (sym c.in-None.ensures.first) in
+    ∥∥₁_elim c.args.self.now.holds none_two
+    (λ book. no_place (file_of c.args.self.now.file) (entries_of c.args.self.now.entries.items) c.args.self.now.running.items instance stands goes_on none book)

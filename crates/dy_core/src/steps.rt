@@ -1,0 +1,14 @@
+use dy_term::Word;
+use sqlite_items::Items;
+
+/// A step that starts an instance: its number, the handler and principal, the session that is gone on with, if one is,
+/// the names that are given, and the index of the message that is received, if one is.
+#[derive(Debug, Drop)]
+pub struct StartStep {
+    pub step: u32,
+    pub handler: Word,
+    pub principal: Word,
+    pub session: Option<u32>,
+    pub args: Items<Word>,
+    pub message: Option<u32>,
+}
