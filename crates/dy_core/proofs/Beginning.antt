@@ -21,7 +21,7 @@ use Rattle.dy_traces.specs.Interleavings.{Interleaves}
 use Rattle.dy_core.specs.declared.running.Running.{Running}
 use Rattle.dy_core.specs.StepMeaning.{StartStep, session_of, start_of}
 use Rattle.dy_core.specs.MirrorBooks.{IsKept, IsBook, HasEachOnce, opened_by}
-use Rattle.dy_core.proofs.Prefixes.{in_longer, in_last, in_more, below_length, take_whole}
+use Rattle.dy_traces.proofs.Prefixes.{in_longer, in_last, in_more, below_length, take_whole}
 use Rattle.dy_core.proofs.Longer.{items_same, end_same, end_before, kept_longer}
 use Rattle.dy_core.proofs.Owners.{no_items_yet, no_end_yet}
 

@@ -1,6 +1,5 @@
 pub mod Mapped
 pub mod Faults
-pub mod Prefixes
 pub mod Searches
 pub mod Longer
 pub mod Owners

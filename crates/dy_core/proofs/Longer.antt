@@ -15,8 +15,8 @@ use Rattle.dy_traces.specs.Instances.{is_item_of, items_of, is_end_of, end_of}
 use Rattle.dy_traces.specs.Interleavings.{Interleaves}
 use Rattle.dy_core.specs.declared.running.Running.{Running}
 use Rattle.dy_core.specs.MirrorBooks.{IsKept, IsBook, IsOfNoInstance}
-use Rattle.dy_core.proofs.Prefixes.{in_longer, in_more, below_length, take_before}
-use Rattle.dy_core.proofs.Searches.{none_passes, none_found, indices_more}
+use Rattle.dy_traces.proofs.Prefixes.{in_longer, in_more, below_length, take_before}
+use Rattle.dy_traces.proofs.Searches.{none_passes, none_found, indices_more}
 
 inside : (a b : Entry) → Some a ≡ Some b → a ≡ b
 inside a b same = cc

@@ -9,8 +9,9 @@ use Rattle.dy_entry.specs.Entries.{Entry, Setup, Fresh, Message, State, Event, C
 use Rattle.dy_traces.specs.Instances.{is_item_of, items_of, is_end_of, end_of, entry_next, next_entry}
 use Rattle.dy_traces.specs.Following.{MayFollow}
 use Rattle.dy_traces.specs.Interleavings.{Interleaves}
-use Rattle.dy_core.proofs.Prefixes.{below_length}
-use Rattle.dy_core.proofs.Searches.{none_found, indices_none}
+use Rattle.dy_traces.proofs.Prefixes.{below_length}
+use Rattle.dy_traces.proofs.Searches.{none_found}
+use Rattle.dy_core.proofs.Searches.{indices_none}
 
 inside : (a b : Entry) → Some a ≡ Some b → a ≡ b
 inside a b same = cc

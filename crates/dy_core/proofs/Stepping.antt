@@ -21,8 +21,8 @@ use Rattle.dy_traces.specs.Following.{MayFollow}
 use Rattle.dy_traces.specs.Interleavings.{Interleaves}
 use Rattle.dy_core.specs.declared.running.Running.{Running}
 use Rattle.dy_core.specs.MirrorBooks.{IsKept, IsBook, HasEachOnce, next_of_kept, item_entry}
-use Rattle.dy_core.proofs.Prefixes.{in_longer, in_last, in_more, in_order, below_length, take_before}
-use Rattle.dy_core.proofs.Searches.{none_passes, found_passes, indices_more}
+use Rattle.dy_traces.proofs.Prefixes.{in_longer, in_last, in_more, in_order, below_length, take_before}
+use Rattle.dy_traces.proofs.Searches.{none_passes, found_passes, indices_more}
 use Rattle.dy_core.proofs.Longer.{end_same, end_before, kept_longer}
 use Rattle.dy_core.proofs.Beginning.{once_more}
 use Rattle.dy_core.proofs.Removed.{stood_before, stands_still, read_at, once_removed, others_left, index_before}

@@ -19,8 +19,8 @@ use Rattle.dy_traces.specs.Instances.{end_of}
 use Rattle.dy_core.specs.declared.running.Running.{Running}
 use Rattle.dy_core.specs.Answers.{IsInstance}
 use Rattle.dy_core.specs.MirrorBooks.{IsBook}
-use Rattle.dy_core.proofs.Prefixes.{in_prefix, in_order}
-use Rattle.dy_core.proofs.Searches.{none_passes}
+use Rattle.dy_traces.proofs.Prefixes.{in_prefix, in_order}
+use Rattle.dy_traces.proofs.Searches.{none_passes}
 
 inside : (a b : Entry) → Some a ≡ Some b → a ≡ b
 inside a b same = cc

@@ -1,7 +1,7 @@
 use Rattle.std.proofs.Common.{below_more, length, arith, ◌≡◌}
 use Rattle.std.proofs.lemmas.List.{length-map}
 use Rattle.dy_entry.specs.Meaning.{entry_of, entries_of}
-use Rattle.dy_core.proofs.Prefixes.{below_length}
+use Rattle.dy_traces.proofs.Prefixes.{below_length}
 use Rattle.dy_core.proofs.sessions.running_in.Goals as goal
 
 pub loop-index-preserved : goal.loop-index-preserved

@@ -14,7 +14,7 @@ use Rattle.dy_eval.specs.Past.{HasEachVersionOnce}
 use Rattle.dy_eval.specs.Turns.{emitted, standing_after, HasRoomForVersions}
 use Rattle.dy_core.specs.declared.running.Running.{Running}
 use Rattle.dy_core.specs.MirrorBooks.{IsBook, next_of_kept, item_entry}
-use Rattle.dy_core.proofs.Prefixes.{below_length}
+use Rattle.dy_traces.proofs.Prefixes.{below_length}
 use Rattle.dy_core.proofs.Stepping.{IsAsked-prop, none_two, place_holds, item_put, book_with_end, book_as_before, book_with_put}
 use Rattle.dy_core.proofs.Turning.{once_from, room_from, once_before, starts_late, room_before, puts_from, ends_from, grown_to}
 use Rattle.dy_core.proofs.books.Book.take_step.Goals as goal
