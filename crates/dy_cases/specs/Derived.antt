@@ -25,9 +25,8 @@ is_kdf kinds.Sig = false
 is_kdf kinds.Aead = false
 is_kdf kinds.Mac = false
 
--- The usage of a key that is derived with this text from a key of this usage: that of the row of its table, for the
--- same owners. A usage
--- of another kind than `kdf` has none.
+-- The usage of a key that is derived with this text from a key of this usage. It is that of the row of its table,
+-- for the same owners. A usage of another kind than `kdf` has none.
 abbrev pub derived_usage : List Decl → Usage → List ℕ → Option Usage
 derived_usage decls usage text =
     if is_kdf usage.kind

@@ -93,8 +93,8 @@ impl<'a> Cases<'a> {
         self.tables.handlers.as_slice()
     }
 
-    /// The row that the table of the usage of this name has for this text, or `None` where there is
-    /// no such usage or no such row.
+    /// The row for this text in the table of the usage of this name. `None` where there is no such
+    /// usage or no such row.
     pub fn row_named(&self, usage: &Word, text: &Text) -> Option<&'a Row>
         ensures { option_map meaning.row_of (option_copied result) ≡
             row_named (map decl_of self.now) usage.now text.now }
@@ -106,7 +106,7 @@ impl<'a> Cases<'a> {
     }
 
     /// The usage of a key that is derived with this text from a key of this usage, for the same
-    /// owners: `None` where the usage is not of kind `kdf` or its table has no such text. It refuses
+    /// owners. `None` where the usage is not of kind `kdf` or its table has no such text. It refuses
     /// out of memory alone.
     pub fn derived(
         &self,

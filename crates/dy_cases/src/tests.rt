@@ -74,7 +74,7 @@ fn handler(alloc: Global, line: u32) -> Option<Decl> {
 }
 
 /// The declaration on this line: some stand twice under one name, and several kinds have one name.
-fn declared(alloc: Global, line: u32) -> Option<Decl> {
+fn decl_at(alloc: Global, line: u32) -> Option<Decl> {
     match line {
         1 => Some(Decl::Usage(usage(alloc, KindText::Aead, b"Enc", 1)?)),
         2 => Some(Decl::Usage(usage(alloc, KindText::Kdf, b"Enc", 2)?)),
@@ -102,7 +102,7 @@ fn file_of(alloc: Global, decls: Items<Decl>) -> File {
 fn file(alloc: Global) -> Result<File, AllocError> {
     let mut decls = Items::new(alloc);
     for line in 1..12 {
-        if let Some(decl) = declared(alloc, line) {
+        if let Some(decl) = decl_at(alloc, line) {
             decls.push(decl)?;
         }
     }

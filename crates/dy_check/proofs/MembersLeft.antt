@@ -12,7 +12,7 @@ use Rattle.dy_syntax.specs.Expressions as e
 use Rattle.dy_typing.specs.Demands as demands
 use Rattle.dy_typing.specs.Names.{stands_number}
 use Rattle.dy_typing.specs.Instances.{label_in, type_in}
-use Rattle.dy_typing.specs.Demands.{Demand, Sealing, Fitted, EventStands, PartnerStands, required, numbered_from}
+use Rattle.dy_typing.specs.Demands.{Demand, Sealing, Fitted, EventStands, PartnerStands, requirement_of, numbered_from}
 use Rattle.dy_check.specs.declared.settings.Setting.{Setting}
 use Rattle.dy_check.specs.declared.conditions.members.Reading.{Reading}
 use Rattle.dy_check.specs.declared.conditions.members.OnField.{OnField}
@@ -31,7 +31,7 @@ partners_left setting reading at partners =
     map PartnerStands
     (numbered_from (at + 1)
     (λ n partner. record {
-      event = required (stands_in reading) n partner.atom;
+      event = requirement_of (stands_in reading) n partner.atom;
       unless = label_in (stands_number (setting_of setting) (stands_in reading)) (here_of reading.here) partner.unless;
     })
     (map partner_of (drop at partners)))
@@ -42,19 +42,19 @@ partners_step setting reading at partners partner below is =
     rw (drop_more partners at partner below, ← is)
     (numbered_step
     (λ n p. record {
-      event = required (stands_in reading) n p.atom;
+      event = requirement_of (stands_in reading) n p.atom;
       unless = label_in (stands_number (setting_of setting) (stands_in reading)) (here_of reading.here) p.unless;
     })
     PartnerStands at (partner_of partner) (map partner_of (drop (at + 1) partners)))
 
 abbrev pub events_left : Reading → Sealing → ℕ → List AtomText → List Demand
-events_left reading sealing at atoms = map (EventStands sealing) (numbered_from (at + 1) (required (stands_in reading)) (map atom_of (drop at atoms)))
+events_left reading sealing at atoms = map (EventStands sealing) (numbered_from (at + 1) (requirement_of (stands_in reading)) (map atom_of (drop at atoms)))
 
 pub events_step : (reading : Reading) (sealing : Sealing) (at : ℕ) (atoms : List AtomText) (atom : AtomText) → at < length atoms → atom ≡ get_or atoms at atom
-    → events_left reading sealing at atoms ≡ EventStands sealing (required (stands_in reading) (at + 1) (atom_of atom)) ∷ events_left reading sealing (at + 1) atoms
+    → events_left reading sealing at atoms ≡ EventStands sealing (requirement_of (stands_in reading) (at + 1) (atom_of atom)) ∷ events_left reading sealing (at + 1) atoms
 events_step reading sealing at atoms atom below is =
     rw (drop_more atoms at atom below, ← is)
-    (numbered_step (required (stands_in reading)) (EventStands sealing) at (atom_of atom) (map atom_of (drop (at + 1) atoms)))
+    (numbered_step (requirement_of (stands_in reading)) (EventStands sealing) at (atom_of atom) (map atom_of (drop (at + 1) atoms)))
 
 abbrev pub fields_left : Setting → Reading → OnField → Sealing → ℕ → List Field → List Expr → List Demand
 fields_left setting reading asked sealing at fields values =

@@ -8,7 +8,7 @@ use Rattle.dy_syntax.specs.declared.declarations.StateDecl.{StateDecl}
 use Rattle.dy_syntax.specs.Meaning.{atom_of, expr_of, field_of, partner_of}
 use Rattle.dy_typing.specs.Names.{Stands, stands_number}
 use Rattle.dy_typing.specs.Instances.{label_in, type_in}
-use Rattle.dy_typing.specs.Demands.{Demand, PartnerStands, StoreKeeps, StoreFits, Fitted, fitted, Required, required, Owed, owed, numbered_from}
+use Rattle.dy_typing.specs.Demands.{Demand, PartnerStands, StoreKeeps, StoreFits, Fitted, fitted_fields, Required, requirement_of, Owed, partners_owed, numbered_from}
 use Rattle.dy_check.specs.declared.settings.Setting.{Setting}
 use Rattle.dy_check.specs.declared.conditions.members.Reading.{Reading}
 use Rattle.dy_check.specs.Meaning.{setting_of, stands_of, here_of}
@@ -27,24 +27,24 @@ fitted_in setting reading number field value = record {
 
 abbrev pub fields_in : Setting → Reading → List Field → List Expr → List Fitted
 fields_in setting reading fields values =
-    fitted (stands_number (setting_of setting) (stands_in reading)) (here_of reading.here) (map field_of fields)
+    fitted_fields (stands_number (setting_of setting) (stands_in reading)) (here_of reading.here) (map field_of fields)
     (map expr_of values)
 
 -- the events that a case requires
 abbrev pub events_in : Reading → List AtomText → List Required
-events_in reading atoms = numbered_from 1 (required (stands_in reading)) (map atom_of atoms)
+events_in reading atoms = numbered_from 1 (requirement_of (stands_in reading)) (map atom_of atoms)
 
 -- a partner of this number
 abbrev pub owed_in : Setting → Reading → ℕ → Partner → Owed
 owed_in setting reading number partner = record {
-  event = required (stands_in reading) number (partner_of partner).atom;
+  event = requirement_of (stands_in reading) number (partner_of partner).atom;
   unless = label_in (stands_number (setting_of setting) (stands_in reading)) (here_of reading.here)
       (partner_of partner).unless;
 }
 
 abbrev pub partners_in : Setting → Reading → List Partner → List Owed
 partners_in setting reading partners =
-    owed (setting_of setting) (stands_in reading) (here_of reading.here) (map partner_of partners)
+    partners_owed (setting_of setting) (stands_in reading) (here_of reading.here) (map partner_of partners)
 
 -- what a state with these fields demands
 abbrev pub state_demands_in : Setting → Reading → List Expr → StateDecl → List Demand

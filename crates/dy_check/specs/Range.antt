@@ -1,5 +1,5 @@
--- What is asked of a file that is checked: its handlers have no more names, and its declarations no more fields, events
--- and partners, than the code's numbers can tell apart. The limits of files ask for less than half of that.
+-- What is asked of a file that is checked, so that the code's numbers tell all apart. It bounds the names of
+-- handlers, and the fields, events and partners of declarations. The limits of files ask for less than half of that.
 use Rattle.std.specs.Prelude.{◌<◌, ◌≤◌, List, length, Contains}
 use Rattle.dy_label.specs.declared.words.TheConstants.{NAMES}
 use Rattle.dy_syntax.specs.Declarations.{CaseDecl, EventDecl, StateDecl}

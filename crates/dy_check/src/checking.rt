@@ -20,8 +20,9 @@ pub enum Verdict {
     Refused { line: u32, condition: u8, field: u8 },
 }
 
-/// Whether a file is typed, and where it is refused if it is not: at the first statement, and there
-/// the first demand, that no derivation meets. It refuses out of memory alone.
+/// Whether a file is typed, and where it is refused if it is not. It is refused at the first
+/// statement, and there at the first demand, that no derivation meets. It refuses out of memory
+/// alone.
 pub fn check(alloc: Global, file: &File) -> Result<Verdict, Memory>
     requires { AreShort (map decl_of file.now.decls) }
     ensures accepted { IfOk result (λ verdict. verdict ≡ Accepted →

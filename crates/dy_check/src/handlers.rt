@@ -12,8 +12,8 @@ use dy_syntax::Handler;
 use dy_term::Memory;
 use std::alloc::Global;
 
-/// Where a handler is refused: the line of the statement, the number of the condition, and that of
-/// the field, the event or the partner, or 0.
+/// Where a handler is refused: the line of the statement and the number of the condition. The third
+/// is that of the field, the event or the partner, or 0.
 #[derive(Clone, Copy)]
 pub(crate) struct Refusal {
     pub(crate) line: u32,

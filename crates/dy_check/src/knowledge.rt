@@ -7,8 +7,9 @@ use dy_types::{Claim, Fact, Known, has_fact, identify};
 use sqlite_items::Items;
 use std::alloc::Global;
 
-/// What a handler knows at a place of its text: its variables after `self`; for each the number of
-/// the first that is one with it; what is known of each value; and the events that happened.
+/// What a handler knows at a place of its text. It has the variables after `self`, and for each the
+/// number of the first that is one with it. It is also what is known of each value, and the events that
+/// happened.
 #[derive(Drop)]
 pub(crate) struct Knowledge {
     pub(crate) words: Items<Word>,
@@ -268,7 +269,7 @@ impl Knowledge {
 
     /// Whether the event is known to have happened with the values of these names and variables, or
     /// else the label of this table is open. It refuses out of memory alone.
-    pub(crate) fn happened(
+    pub(crate) fn has_happened(
         &self,
         alloc: Global,
         event: &Word,

@@ -8,3 +8,5 @@ pub mod Beginning
 pub mod Removed
 pub mod Stepping
 pub mod Turning
+pub mod NextOnce
+pub mod Interleaved

@@ -118,6 +118,14 @@ grown file entries more entry running true is longer book =
     subst (λ (X : List Entry). IsBook file X running) (sym (ap entries_of is ∙ map-append entry_of entries (entry ∷ []))) (longer book)
 grown file entries more entry running false is longer book = subst (λ (es : List declared.Entry). IsBook file (entries_of es) running) (sym is) book
 
+-- An interleaving to which an entry was added, or was not.
+pub grown_interleaving : (bytes : List ℕ) (file : File) (entries more : List declared.Entry) (entry : declared.Entry) (b : Bool)
+    → more ≡ (if b then entries ++ entry ∷ [] else entries)
+    → Interleaves bytes file (entries_of entries ++ entry_of entry ∷ []) → Interleaves bytes file (entries_of entries) → Interleaves bytes file (entries_of more)
+grown_interleaving bytes file entries more entry true is longer same =
+    subst (λ (X : List Entry). Interleaves bytes file X) (sym (ap entries_of is ∙ map-append entry_of entries (entry ∷ []))) longer
+grown_interleaving bytes file entries more entry false is longer same = subst (λ (es : List declared.Entry). Interleaves bytes file (entries_of es)) (sym is) same
+
 pub none_of : (o : Option ℕ) → ((x : ℕ) → o ≡ Some x → ⊥) → o ≡ None
 none_of None other = refl
 none_of (Some x) other = absurd (other x refl)

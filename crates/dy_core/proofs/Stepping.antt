@@ -12,7 +12,7 @@ use Rattle.dy_entry.specs.Summaries.{is_start}
 use Rattle.dy_eval.specs.declared.items.Item.{Item}
 use Rattle.dy_eval.specs.declared.items.Item.TheVariants as items
 use Rattle.dy_eval.specs.Meaning.{standing_of}
-use Rattle.dy_eval.specs.Runs.{Left, Next, Puts, Ends, next_of, told, step, does, Standing, Goes, Awaits, Ended}
+use Rattle.dy_eval.specs.Runs.{Left, Next, Puts, Ends, next_of, tell, step, does, Standing, Goes, Awaits, Ended}
 use Rattle.dy_eval.specs.Turns.{IsAsked, next_asked}
 use Rattle.dy_eval.specs.Starts.{opening, message_in, does_after}
 use Rattle.dy_traces.specs.Steps.{IsShort, has_step}
@@ -125,11 +125,27 @@ followed_by (Some k) found entry start e none at is = absurd cc
 followed_by None None entry start e none at is = absurd cc
 followed_by None (Some other) entry start e none at is = ap entry (inside other start at) ∙ is
 
-kept_follows : (decls : List Decl) (T : List Entry) (old : Running) (kept : IsKept decls T old) (e : Entry) → entry_of_next old.start kept.start (next_of_kept T old) ≡ Some e → MayFollow decls T e
-kept_follows decls T old kept e is =
-    may_next decls T old.start kept.start (next_of_kept T old) e is
-    (followed_by (end_of T old.start) (slice_get T old.start) (entry_next decls T old.start) kept.start e kept.goes_on kept.stands
-    (ap (λ (o : Option Next). option_and_then (entry_of_next old.start kept.start) o) kept.does ∙ is))
+next_from : (o : Option ℕ) (found : Option Entry) (follows : Entry → Option Entry) (e : Entry)
+    → (if is_some o then None else option_and_then follows found) ≡ Some e → (start : Entry) × (follows start ≡ Some e)
+next_from (Some k) found follows e is = absurd cc
+next_from None None follows e is = absurd cc
+next_from None (Some start) follows e is = (start, is)
+
+does_from : (o : Option Next) (entry : Next → Option Entry) (e : Entry) → option_and_then entry o ≡ Some e → (next : Next) × (entry next ≡ Some e)
+does_from None entry e is = absurd cc
+does_from (Some next) entry e is = (next, is)
+
+-- What an instance puts next may follow.
+pub next_follows : (decls : List Decl) (T : List Entry) (n : ℕ) (e : Entry) → next_entry decls T n ≡ Some e → MayFollow decls T e
+next_follows decls T n e is =
+    let start = next_from (end_of T n) (slice_get T n) (entry_next decls T n) e is in
+    let next = does_from (does_next decls T n start.0) (entry_of_next n start.0) e start.1 in
+    may_next decls T n start.0 next.0 e next.1 is
+
+kept_next : (decls : List Decl) (T : List Entry) (old : Running) (kept : IsKept decls T old) (e : Entry) → entry_of_next old.start kept.start (next_of_kept T old) ≡ Some e → next_entry decls T old.start ≡ Some e
+kept_next decls T old kept e is =
+    followed_by (end_of T old.start) (slice_get T old.start) (entry_next decls T old.start) kept.start e kept.goes_on kept.stands
+    (ap (λ (o : Option Next). option_and_then (entry_of_next old.start kept.start) o) kept.does ∙ is)
 
 -- the Start of an instance that does something
 starts_instance : (decls : List Decl) (X : List Entry) (start : Entry) (indices : List ℕ) (next : Next) → does_after decls X start indices ≡ Some next → is_start start ≡ true
@@ -145,13 +161,13 @@ abbrev pub StepsMore : Type 0
 StepsMore = (X : List Entry) (left : Left) (indices : List ℕ) (index : ℕ) → does X left (indices ++ index ∷ []) ≡ step X (does X left indices) index
 
 one_step : (more : StepsMore) (decls : List Decl) (X : List Entry) (start : Entry) (indices : List ℕ) (index : ℕ) (item : Item) (binds : Option (List ℕ)) (left : Left)
-    → does_after decls X start indices ≡ Some (Puts item binds left) → does_after decls X start (indices ++ index ∷ []) ≡ Some (next_of X (told index binds left))
+    → does_after decls X start indices ≡ Some (Puts item binds left) → does_after decls X start (indices ++ index ∷ []) ≡ Some (next_of X (tell index binds left))
 one_step more decls X (Start steps handler p s args message) indices index item binds left is = by_handler (handler_named decls handler) is where
   opens : statements.Handler → Left
   opens h = opening decls h p s args (option_and_then (λ (i : ℕ). option_and_then message_in (slice_get X i)) message)
 
   by_handler : (o : Option statements.Handler) → option_map (λ (h : statements.Handler). does X (opening decls h p s args (option_and_then (λ (i : ℕ). option_and_then message_in (slice_get X i)) message)) indices) o ≡ Some (Puts item binds left)
-      → option_map (λ (h : statements.Handler). does X (opening decls h p s args (option_and_then (λ (i : ℕ). option_and_then message_in (slice_get X i)) message)) (indices ++ index ∷ [])) o ≡ Some (next_of X (told index binds left))
+      → option_map (λ (h : statements.Handler). does X (opening decls h p s args (option_and_then (λ (i : ℕ). option_and_then message_in (slice_get X i)) message)) (indices ++ index ∷ [])) o ≡ Some (next_of X (tell index binds left))
   by_handler None same = absurd cc
   by_handler (Some h) same =
       let from = opening decls h p s args (option_and_then (λ (i : ℕ). option_and_then message_in (slice_get X i)) message) in
@@ -173,6 +189,16 @@ module _ (file : File) (T : List Entry) (running : List Running) (at : ℕ) (old
     | inr (inr more) ↦ inr (stands_still running at k x (λ same. omega (arith, more, same)) stands)
   ]
 
+  end_put : (outcome : Outcome) → next_of_kept T old ≡ Ends outcome → (book : IsBook file T running) → entry_of_next old.start (book.kept at old is).start (next_of_kept T old) ≡ Some (End old.start outcome)
+  end_put outcome ends book =
+      let kept = book.kept at old is in
+      let starts = starts_instance file.decls (take old.start T) kept.start (items_of T old.start) (next_of_kept T old) kept.does in
+      ap (entry_of_next old.start kept.start) ends ∙ ends_entry old.start outcome kept.start starts
+
+  -- The End is what the instance puts next.
+  pub end_next : (outcome : Outcome) → next_of_kept T old ≡ Ends outcome → IsBook file T running → next_entry file.decls T old.start ≡ Some (End old.start outcome)
+  end_next outcome ends book = kept_next file.decls T old (book.kept at old is) (End old.start outcome) (end_put outcome ends book)
+
   -- A Book whose instance ended.
   pub book_with_end : (outcome : Outcome) → next_of_kept T old ≡ Ends outcome
       → ((bytes : List ℕ) → Interleaves bytes file T → MayFollow file.decls T (End old.start outcome) → Interleaves bytes file (T ++ End old.start outcome ∷ []))
@@ -180,12 +206,9 @@ module _ (file : File) (T : List Entry) (running : List Running) (at : ℕ) (old
       → IsBook file T running → IsBook file (T ++ End old.start outcome ∷ []) (remove running at)
   book_with_end outcome ends longer short book =
       let e = End old.start outcome in
-      let kept = book.kept at old is in
-      let starts = starts_instance file.decls (take old.start T) kept.start (items_of T old.start) (next_of_kept T old) kept.does in
-      let put : entry_of_next old.start kept.start (next_of_kept T old) ≡ Some e = ap (entry_of_next old.start kept.start) ends ∙ ends_entry old.start outcome kept.start starts in
       record {
         bytes = book.bytes;
-        interleaves = longer book.bytes book.interleaves (kept_follows file.decls T old kept e put);
+        interleaves = longer book.bytes book.interleaves (next_follows file.decls T old.start e (end_next outcome ends book));
         short = short book.short;
         kept = λ k x stands. kept_longer T e file.decls x refl (ne_eqb old.start x.start (λ same. others book k x stands (sym same))) (was_kept book k x stands);
         once = once_removed running at book.once;
@@ -267,9 +290,9 @@ module _ (file : File) (T : List Entry) (running : List Running) (at : ℕ) (old
           let below = below_length T n kept.start kept.stands in
           let sees : take n longer ≡ X = take_before T (e ∷ []) n (omega (arith, below)) in
           let comes : does_after decls X kept.start (items_of T n) ≡ Some (Puts item binds left) = kept.does ∙ ap Some puts in
-          let stepped : does_after decls X kept.start (items_of T n ++ length T ∷ []) ≡ Some (next_of X (told (length T) binds left)) =
+          let stepped : does_after decls X kept.start (items_of T n ++ length T ∷ []) ≡ Some (next_of X (tell (length T) binds left)) =
           one_step more decls X kept.start (items_of T n) (length T) item binds left comes in
-          let asks : next_of X (told (length T) binds left) ≡ next_asked X (standing_of r.instance) r.landed =
+          let asks : next_of X (tell (length T) binds left) ≡ next_asked X (standing_of r.instance) r.landed =
           ap (λ (l : Option ℕ). next_asked X (Awaits binds left) l) (sym landed) ∙ ap (λ (standing : Standing). next_asked X standing r.landed) (sym stands) in
           let does_then : does_after decls X kept.start (items_of longer n) ≡ Some (next_asked X (standing_of r.instance) r.landed) =
           ap (does_after decls X kept.start) items_are ∙ stepped ∙ ap Some asks in
@@ -282,17 +305,22 @@ module _ (file : File) (T : List Entry) (running : List Running) (at : ℕ) (old
                 (subst (λ (Y : List Entry). does_after decls Y kept.start (items_of longer n) ≡ Some (next_asked Y (standing_of r.instance) r.landed)) (sym sees) does_then);
           }
 
+      -- The item is what the instance puts next.
+      pub put_next : IsBook file T running → next_entry file.decls T old.start ≡ Some e
+      put_next book =
+          let kept = book.kept at old is in
+          kept_next file.decls T old kept e
+          (ap (entry_of_next old.start kept.start) puts ∙ sym (item_next old.start item binds left kept.start) ∙ entry_is kept)
+
       pub book_with_put : r.landed ≡ Some (length T) → standing_of r.instance ≡ Awaits binds left
           → ((bytes : List ℕ) → Interleaves bytes file T → MayFollow file.decls T e → Interleaves bytes file (T ++ e ∷ [])) → (IsShort T → IsShort (T ++ e ∷ []))
           → IsBook file T running → IsBook file (T ++ e ∷ []) (remove running at ++ r ∷ [])
       book_with_put landed stands longer short book =
           let kept = book.kept at old is in
           let facts = item_facts old.start item kept.start e (entry_is kept) in
-          let comes : entry_of_next old.start kept.start (next_of_kept T old) ≡ Some e =
-          ap (entry_of_next old.start kept.start) puts ∙ sym (item_next old.start item binds left kept.start) ∙ entry_is kept in
           record {
             bytes = book.bytes;
-            interleaves = longer book.bytes book.interleaves (kept_follows file.decls T old kept e comes);
+            interleaves = longer book.bytes book.interleaves (next_follows file.decls T old.start e (put_next book));
             short = short book.short;
             kept = λ k x stood. elim (in_more (remove running at) r k x stood) [
               | inl before ↦ kept_longer T e file.decls x (facts.own x.start ∙ ne_eqb old.start x.start (λ equal. others book k x before (sym equal))) (facts.no_end x.start) (was_kept book k x before)

@@ -14,7 +14,7 @@ use Rattle.dy_eval.specs.declared.items.Item.{Item}
 use Rattle.dy_eval.specs.declared.items.Emit.TheVariants.{Put, End}
 use Rattle.dy_eval.specs.Past.{HasEachVersionOnce}
 use Rattle.dy_eval.specs.Runs.{Left, Next, Puts, Ends}
-use Rattle.dy_eval.specs.Turns.{emitted, HasRoomForVersions}
+use Rattle.dy_eval.specs.Turns.{emit_of, HasRoomForVersions}
 use Rattle.dy_traces.specs.Instances.{end_of}
 use Rattle.dy_core.specs.declared.running.Running.{Running}
 use Rattle.dy_core.specs.Answers.{IsInstance}
@@ -55,20 +55,26 @@ pub room_before : (T : List Entry) (n : ℕ) → n < length T → length T < 2 ^
 room_before T n within few low p s = let versions = low p s in let all = length-take-le n T (omega (arith, within)) in omega (arith, versions, all, within, few)
 
 -- what is answered tells what comes next
-pub puts_from : (next : Next) (item : Item) → emitted next ≡ Put item → (binds : Option (List ℕ)) × (left : Left) × (next ≡ Puts item binds left)
+pub puts_from : (next : Next) (item : Item) → emit_of next ≡ Put item → (binds : Option (List ℕ)) × (left : Left) × (next ≡ Puts item binds left)
 puts_from (Puts other binds left) item is = let same : other ≡ item = cc in (binds, left, ap (λ (x : Item). Puts x binds left) same)
 puts_from (Ends outcome) item is = absurd cc
 
-pub ends_from : (next : Next) (outcome : Outcome) → emitted next ≡ End outcome → next ≡ Ends outcome
+pub ends_from : (next : Next) (outcome : Outcome) → emit_of next ≡ End outcome → next ≡ Ends outcome
 ends_from (Puts item binds left) outcome is = absurd cc
 ends_from (Ends other) outcome is = let same : other ≡ outcome = cc in ap (λ (o : Outcome). Ends o) same
+
+-- the trace with an entry more
+pub trace_more : (entries roomy more : List declared.Entry) (entry : declared.Entry) → more ≡ roomy ++ entry ∷ [] → roomy ≡ entries
+    → entries_of more ≡ entries_of entries ++ entry_of entry ∷ []
+trace_more entries roomy more entry adds same =
+    ap entries_of (adds ∙ ap (λ (es : List declared.Entry). es ++ entry ∷ []) same) ∙ map-append entry_of entries (entry ∷ [])
 
 -- the Book's lists with an entry more
 pub grown_to : (file : File) (entries roomy more : List declared.Entry) (entry : declared.Entry) (rows more_rows : List Running)
     → more ≡ roomy ++ entry ∷ [] → roomy ≡ entries → more_rows ≡ rows → IsBook file (entries_of entries ++ entry_of entry ∷ []) rows → IsBook file (entries_of more) more_rows
 grown_to file entries roomy more entry rows more_rows adds same rows_same book =
     subst (λ (X : List Entry). IsBook file X more_rows)
-    (sym (ap entries_of (adds ∙ ap (λ (es : List declared.Entry). es ++ entry ∷ []) same) ∙ map-append entry_of entries (entry ∷ [])))
+    (sym (trace_more entries roomy more entry adds same))
     (subst (λ (rs : List Running). IsBook file (entries_of entries ++ entry_of entry ∷ []) rs) (sym rows_same) book)
 
 -- An instance without an End is kept.

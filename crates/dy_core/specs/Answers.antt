@@ -3,7 +3,7 @@ use Rattle.std.specs.Prelude.{◌≡◌, ℕ, true, List, [], ◌∷◌, ◌++�
 use Rattle.std.specs.List.{slice_get}
 use Rattle.dy_term.specs.Terms.{Term}
 use Rattle.dy_label.specs.declared.usages.Outcome.{Outcome}
-use Rattle.dy_syntax.specs.Files.{File}
+use Rattle.dy_syntax.specs.Files.{File, Decl}
 use Rattle.dy_syntax.specs.Rules.{IsFirst}
 use Rattle.dy_parse.specs.declared.errors.LimitName.{LimitName}
 use Rattle.dy_parse.specs.Reading.{Reads, IsBadLine, IsOverLimit}
@@ -12,7 +12,7 @@ use Rattle.dy_entry.specs.Summaries.{is_start}
 use Rattle.dy_recipe.specs.Moves.{Move}
 use Rattle.dy_recipe.specs.Values.{recipe_value}
 use Rattle.dy_traces.specs.Steps.{step_at}
-use Rattle.dy_traces.specs.Instances.{is_item_of, end_of, IsRunningIn, IsSessionOf}
+use Rattle.dy_traces.specs.Instances.{is_item_of, end_of, next_entry, IsRunningIn, IsSessionOf}
 use Rattle.dy_traces.specs.Following.{message_at}
 use Rattle.dy_core.specs.declared.answers.Added.{Added}
 use Rattle.dy_core.specs.declared.answers.Added.TheVariants as added
@@ -89,13 +89,14 @@ IsStarted T s started.Memory U = U ≡ T
 abbrev pub IsInstance : List Entry → ℕ → Type 0
 IsInstance T instance = (start : Entry) × (slice_get T instance ≡ Some start) × (is_start start ≡ true)
 
--- The answers of `advance`.
-abbrev pub IsAdvanced : List Entry → ℕ → Advanced → List Entry → Type 0
-IsAdvanced T instance (advanced.Put index) U =
-    IsInstance T instance × (end_of T instance ≡ None)
-    × ((e : Entry) × (is_item_of instance e ≡ true) × Adds T U index e)
-IsAdvanced T instance (advanced.Finished index) U =
-    IsInstance T instance × (end_of T instance ≡ None) × ((outcome : Outcome) × Adds T U index (End instance outcome))
-IsAdvanced T instance advanced.NoInstance U = (IsInstance T instance → ⊥) × (U ≡ T)
-IsAdvanced T instance (advanced.Ended index) U = IsInstance T instance × (end_of T instance ≡ Some index) × (U ≡ T)
-IsAdvanced T instance advanced.Memory U = U ≡ T
+-- The answers of `advance`. Put adds the entry that the instance puts next, an item, and Finished its End.
+abbrev pub IsAdvanced : List Decl → List Entry → ℕ → Advanced → List Entry → Type 0
+IsAdvanced decls T instance (advanced.Put index) U =
+    (e : Entry) × (next_entry decls T instance ≡ Some e) × (is_item_of instance e ≡ true) × Adds T U index e
+IsAdvanced decls T instance (advanced.Finished index) U =
+    (outcome : Outcome) × (next_entry decls T instance ≡ Some (End instance outcome))
+    × Adds T U index (End instance outcome)
+IsAdvanced decls T instance advanced.NoInstance U = (IsInstance T instance → ⊥) × (U ≡ T)
+IsAdvanced decls T instance (advanced.Ended index) U =
+    IsInstance T instance × (end_of T instance ≡ Some index) × (U ≡ T)
+IsAdvanced decls T instance advanced.Memory U = U ≡ T

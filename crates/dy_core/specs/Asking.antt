@@ -13,8 +13,8 @@ are_both_given None None = true
 are_both_given (Some a) (Some b) = true
 are_both_given _ _ = false
 
--- The step has as many arguments as the handler, a session exactly where the handler goes on from a state, and a
--- message exactly where it receives one.
+-- The step has as many arguments as the handler. It has a session exactly where the handler goes on from a
+-- state, and a message exactly where it receives one.
 abbrev pub fits_handler : StartStep → Handler → Bool
 fits_handler s handler =
     (length s.args == length handler.args)

@@ -3,7 +3,7 @@ ghost use Rattle.dy_entry.specs.Meaning.{entry_of};
 ghost use Rattle.dy_traces.specs.declared.limits.TheConstants.{MAX_STEPS};
 ghost use Rattle.dy_traces.specs.Steps.{has_step};
 ghost use Rattle.dy_traces.specs.Following.{MayFollow};
-ghost use Rattle.dy_core.specs.BookMeaning.{trace_of, decls_in};
+ghost use Rattle.dy_core.specs.BookMeaning.{trace_of, decls_in, StaysInterleaved};
 ghost use Rattle.dy_core.specs.MirrorBooks.{IsOfNoInstance};
 ghost use Rattle.dy_core.specs.Answers.{Adds};
 
@@ -22,6 +22,7 @@ impl Book {
         ensures ok { IfOk result (λ index. Adds (trace_of self.old) (trace_of self.new) index (entry_of entry)) }
         ensures err { OnErr result (trace_of self.new ≡ trace_of self.old) }
         ensures file { self.new.file ≡ self.old.file }
+        ensures interleaves { StaysInterleaved self.old self.new }
     {
         a_longer_interleaving();
         a_longer_short_trace();

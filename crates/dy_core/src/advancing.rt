@@ -3,9 +3,9 @@ ghost use Rattle.std.specs.Option.{option_and_then};
 ghost use Rattle.dy_entry.specs.Meaning.{entry_of, entries_of};
 ghost use Rattle.dy_eval.specs.Past.{HasEachVersionOnce};
 ghost use Rattle.dy_eval.specs.Meaning.{standing_of};
-ghost use Rattle.dy_eval.specs.Turns.{IsAsked, emitted, standing_after, HasRoomForVersions};
+ghost use Rattle.dy_eval.specs.Turns.{IsAsked, emit_of, standing_after, HasRoomForVersions};
 ghost use Rattle.dy_traces.specs.Instances as instances;
-ghost use Rattle.dy_core.specs.BookMeaning.{trace_of};
+ghost use Rattle.dy_core.specs.BookMeaning.{trace_of, decls_in, StaysInterleaved};
 ghost use Rattle.dy_core.specs.MirrorBooks as mirror;
 ghost use Rattle.dy_core.specs.Answers.{IsInstance, IsAdvanced};
 
@@ -59,7 +59,7 @@ fn take_turn(entries: &[Entry], kept: &mut Running) -> Result<Emit, Memory>
     requires once { HasEachVersionOnce (take kept.old.start (entries_of entries.now)) }
     requires room { HasRoomForVersions (take kept.old.start (entries_of entries.now)) }
     requires asked { IsAsked (standing_of kept.old.instance) kept.old.landed }
-    ensures emit { IfOk result (λ emit. emit ≡ emitted (mirror.next_of_kept (entries_of entries.now) kept.old)) }
+    ensures emit { IfOk result (λ emit. emit ≡ emit_of (mirror.next_of_kept (entries_of entries.now) kept.old)) }
     ensures stands { OnOk result
         (standing_of kept.new.instance ≡ standing_after (mirror.next_of_kept (entries_of entries.now) kept.old)) }
     ensures memory { OnErr result (standing_of kept.new.instance ≡ standing_of kept.old.instance) }
@@ -87,7 +87,7 @@ impl Book {
         requires place { position (λ kept. kept.start == instance) self.old.running.items ≡ Some at }
         requires stands { IsInstance (trace_of self.old) instance }
         requires goes_on { instances.end_of (trace_of self.old) instance ≡ None }
-        ensures answer { IsAdvanced (trace_of self.old) instance result (trace_of self.new) }
+        ensures answer { IsAdvanced (decls_in self.old) (trace_of self.old) instance result (trace_of self.new) }
         ensures file { self.new.file ≡ self.old.file }
     {
         a_longer_interleaving();
@@ -120,12 +120,15 @@ impl Book {
     }
 
     /// Takes the next step of an instance. `NoInstance` comes exactly where no Start stands at the index, and `Ended`
-    /// with the index of its End exactly where it has one. `Put` has the index of the entry of an item, and `Finished`
-    /// that of the End. The other refusal is out of memory. After a refusal the Book is as it was.
+    /// with the index of its End exactly where it has one. `Put` has the index of the item that the instance puts next,
+    /// and `Finished` that of the End that it puts next. The other refusal is out of memory. After a refusal the Book is
+    /// as it was.
     pub fn advance(&mut self, instance: u32) -> Advanced
-        ensures answer { IsAdvanced (trace_of self.old) instance result (trace_of self.new) }
+        ensures answer { IsAdvanced (decls_in self.old) (trace_of self.old) instance result (trace_of self.new) }
         ensures file { self.new.file ≡ self.old.file }
+        ensures interleaves { StaysInterleaved self.old self.new }
     {
+        a_longer_interleaving();
         if !is_instance(self.entries.as_slice(), instance) {
             return Advanced::NoInstance;
         }

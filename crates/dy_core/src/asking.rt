@@ -25,8 +25,9 @@ fn fits_handler(step: &StartStep, handler: &Handler) -> bool
 }
 
 impl Book {
-    /// Whether the step fits the file: its handler is declared, takes so many arguments, goes on from a state exactly
-    /// where a session is given and receives a message exactly where one is given, and its number is below 1,024.
+    /// Whether the step fits the file: its handler is declared and takes so many arguments, and its number is below
+    /// 1,024. A session is given exactly where the handler goes on from a state, and a message exactly where it
+    /// receives one.
     pub fn asks_right(&self, step: &StartStep) -> bool
         ensures { result ≡ asking.asks_right (decls_in self.now) (step_of step.now) }
     {

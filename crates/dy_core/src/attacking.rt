@@ -3,7 +3,7 @@ ghost use Rattle.dy_label.specs.LabelsMeaning.{place_of_corruption};
 ghost use Rattle.dy_entry.specs.Entries as entries;
 ghost use Rattle.dy_recipe.specs.Meaning.{recipe_of};
 ghost use Rattle.dy_traces.specs.declared.limits.TheConstants.{MAX_STEPS};
-ghost use Rattle.dy_core.specs.BookMeaning.{trace_of};
+ghost use Rattle.dy_core.specs.BookMeaning.{trace_of, StaysInterleaved};
 ghost use Rattle.dy_core.specs.Answers.{IsAdded, IsInjected};
 
 use crate::answers::{Added, Injected};
@@ -23,6 +23,7 @@ impl Book {
         ensures answer { IsAdded (trace_of self.old) step (entries.Corrupt step (place_of_corruption corruption)) result
             (trace_of self.new) }
         ensures file { self.new.file ≡ self.old.file }
+        ensures interleaves { StaysInterleaved self.old self.new }
     {
         if let Some(index) = step_at(self.entries.as_slice(), step) {
             return Added::Already { index };
@@ -38,6 +39,7 @@ impl Book {
         requires { step < MAX_STEPS }
         ensures answer { IsAdded (trace_of self.old) step (entries.Forge step) result (trace_of self.new) }
         ensures file { self.new.file ≡ self.old.file }
+        ensures interleaves { StaysInterleaved self.old self.new }
     {
         if let Some(index) = step_at(self.entries.as_slice(), step) {
             return Added::Already { index };
@@ -53,6 +55,7 @@ impl Book {
         requires { step < MAX_STEPS }
         ensures answer { IsAdded (trace_of self.old) step (entries.Skip step) result (trace_of self.new) }
         ensures file { self.new.file ≡ self.old.file }
+        ensures interleaves { StaysInterleaved self.old self.new }
     {
         if let Some(index) = step_at(self.entries.as_slice(), step) {
             return Added::Already { index };
@@ -70,6 +73,7 @@ impl Book {
         requires { step < MAX_STEPS }
         ensures answer { IsInjected (trace_of self.old) step (recipe_of recipe.now) result (trace_of self.new) }
         ensures file { self.new.file ≡ self.old.file }
+        ensures interleaves { StaysInterleaved self.old self.new }
     {
         a_recipe_gives_what_is_derived();
         if let Some(index) = step_at(self.entries.as_slice(), step) {

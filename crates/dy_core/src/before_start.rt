@@ -18,7 +18,7 @@ pub(crate) struct BeforeStart<'a> {
 }
 
 /// What an entry stores, if it is a State.
-fn stored(entry: &Entry) -> Option<Stored<'_>>
+fn stored_by(entry: &Entry) -> Option<Stored<'_>>
     ensures { option_map stored_of result ≡ stored_by (entry_of entry.now) }
 {
     match entry {
@@ -52,7 +52,7 @@ impl Past for BeforeStart<'_> {
     }
 
     fn state(&self, index: u32) -> Option<Stored<'_>> {
-        stored(self.entries.get(index as usize)?)
+        stored_by(self.entries.get(index as usize)?)
     }
 
     fn cert(&self, index: u32) -> Option<&FlatTerm> {

@@ -19,8 +19,10 @@ pub struct Book {
 }
 
 impl Book {
+    ghost use Rattle.dy_syntax.specs.Meaning.{file_of};
     ghost use Rattle.dy_entry.specs.Meaning.{entries_of};
-    ghost use Rattle.dy_core.specs.BookMeaning.{trace_of};
+    ghost use Rattle.dy_traces.specs.Steps.{IsShort};
+    ghost use Rattle.dy_core.specs.BookMeaning.{trace_of, file_in, IsInterleavingOf};
 
     /// The trace.
     pub fn entries(&self) -> &[Entry]
@@ -28,4 +30,18 @@ impl Book {
     {
         self.entries.as_slice()
     }
+
+    /// The protocol file.
+    pub fn file(&self) -> &File
+        ensures { file_of result.now ≡ file_in self.now }
+    {
+        &self.file
+    }
+
+    /// Does nothing. The trace is a short interleaving of the file, and has fewer than 2^32 entries.
+    pub fn is_interleaving(&self)
+        ensures interleaves { ∥ IsInterleavingOf (file_in self.now) (trace_of self.now) ∥₁ }
+        ensures short { IsShort (trace_of self.now) }
+        ensures few { length (trace_of self.now) < 2 ^ 32 }
+    {}
 }

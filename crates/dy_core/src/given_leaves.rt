@@ -3,6 +3,7 @@ ghost use Rattle.std.specs.Option.{option_copied};
 ghost use Rattle.dy_entry.specs.Meaning.{entry_of, entries_of};
 ghost use Rattle.dy_eval.specs.Past.{key_certified};
 ghost use Rattle.dy_eval.specs.Starts.{message_in};
+ghost use Rattle.dy_recipe.specs.Values.{value_at};
 ghost use Rattle.dy_traces.specs.Given.{given_by, field_given};
 
 use dy_entry::{Entry, is_covered};
@@ -54,13 +55,25 @@ pub(crate) fn cert(entry: &Entry) -> Option<&FlatTerm>
     }
 }
 
-/// A field of a state that some corruption covers.
+/// The field that a number names, counted from 1.
+fn field_at(fields: &[FlatTerm], number: u32) -> Option<&FlatTerm>
+    ensures { option_copied result ≡ value_at fields.now number }
+{
+    if number == 0 {
+        return None;
+    }
+    fields.get(number as usize - 1)
+}
+
+/// The field that a number names of a state that some corruption covers, counted from 1.
 fn covered_field<'a>(entries: &[Entry], entry: &'a Entry, field: u32) -> Option<&'a FlatTerm>
     ensures { option_copied result ≡ field_given (entries_of entries.now) field (entry_of entry.now) }
 {
     match entry {
         Entry::State(_, principal, session, version, _, fields)
-            if is_covered(entries, principal, *session, *version) => { fields.get(field as usize) }
+            if is_covered(entries, principal, *session, *version) => {
+            field_at(fields.as_slice(), field)
+        }
         _ => None,
     }
 }

@@ -19,6 +19,7 @@ mod steps;
 
 pub use answers::{Added, Advanced, Injected, OpenError, Started};
 pub use books::Book;
+pub use searching::step_at;
 pub use steps::StartStep;
 
 #[cfg(test)]

@@ -3,8 +3,9 @@ ghost use Rattle.dy_syntax.specs.Meaning.{file_of};
 ghost use Rattle.dy_syntax.specs.Rules.{IsWellFormed, IsFirst};
 ghost use Rattle.dy_entry.specs.Entries.{Setup};
 ghost use Rattle.dy_entry.specs.Meaning.{entries_of};
+ghost use Rattle.dy_traces.specs.Interleavings.{Interleaves};
 ghost use Rattle.dy_core.specs.Protocols.{IsProtocol};
-ghost use Rattle.dy_core.specs.BookMeaning.{trace_of};
+ghost use Rattle.dy_core.specs.BookMeaning.{trace_of, file_in};
 ghost use Rattle.dy_core.specs.Answers.{IsBadInput};
 ghost use Rattle.dy_core.specs.MirrorFaults as mirror;
 
@@ -76,11 +77,13 @@ fn setup_alone(alloc: Global, input: Vec<u8>) -> Result<Vec<Entry>, Memory>
 
 impl Book {
     /// Opens a Book of the Setup of these bytes alone, of which there are at most 1,048,576. `BadInput` comes exactly
-    /// where they are no well-formed file, with the line of the first fault: in the grammar, of a limit or of a rule.
-    /// The other refusal is out of memory.
+    /// where they are no well-formed file. It has the line of the first fault: in the grammar, of a limit or of a
+    /// rule. The other refusal is out of memory.
     pub fn open(alloc: Global, input: Vec<u8>) -> Result<Book, OpenError>
         requires { length input.items ≤ MAX_SOURCE_BYTES }
         ensures trace { IfOk result (λ book. trace_of book ≡ Setup input.items ∷ []) }
+        ensures file { IfOk result (λ book. IsProtocol input.items (file_in book)) }
+        ensures interleaves { IfOk result (λ book. Interleaves input.items (file_in book) (trace_of book)) }
         ensures bad { (line : ℕ) → IsErrOf result (OpenError.BadInput line) → IsBadInput input.items line }
     {
         opening_trace();

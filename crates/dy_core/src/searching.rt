@@ -27,8 +27,8 @@ fn first_of_step(entries: &[Entry], step: u32) -> Option<usize>
     entries.iter().position(|entry| has_step(entry, step))
 }
 
-/// The index of the entry of a step, or `None` where there is none.
-pub(crate) fn step_at(entries: &[Entry], step: u32) -> Option<u32>
+/// The index of the first entry of a step, or `None` where there is none. The entries are fewer than 2^32.
+pub fn step_at(entries: &[Entry], step: u32) -> Option<u32>
     requires { length entries.now < 2 ^ 32 }
     ensures { result ≡ steps.step_at (entries_of entries.now) step }
 {

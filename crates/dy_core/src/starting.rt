@@ -10,7 +10,7 @@ ghost use Rattle.dy_core.specs.MirrorBooks.{MayBegin};
 ghost use Rattle.dy_traces.specs.Steps.{IsUnused};
 ghost use Rattle.dy_core.specs.StepMeaning.{step_of};
 ghost use Rattle.dy_core.specs.Asking.{asks_right};
-ghost use Rattle.dy_core.specs.BookMeaning.{trace_of, decls_in};
+ghost use Rattle.dy_core.specs.BookMeaning.{trace_of, decls_in, StaysInterleaved};
 ghost use Rattle.dy_core.specs.Answers.{IsStarted, IsOpened, IsIdle, HasMessage};
 
 use crate::answers::Started;
@@ -162,15 +162,17 @@ impl Book {
     }
 
     /// Starts an instance of a handler. The step fits the file, as `asks_right` tests. `Already` has the index of the
-    /// entry of this step, where it has one. `NoSession` comes where the session that is given was opened by no Start of
-    /// the principal, `Busy` where an instance of it has no End, and `NoMessage` where at the index that is given stands
-    /// no message: each exactly where the earlier ones do not come. The other refusal is out of memory. After a refusal
-    /// the Book is as it was.
+    /// entry of this step, where it has one. `NoSession` comes where the session that is given was opened by no Start
+    /// of the principal. `Busy` comes where an instance of it has no End, and `NoMessage` where no message stands at
+    /// the given index. Each comes exactly where the earlier ones do not. The other refusal is out of memory. After a
+    /// refusal the Book is as it was.
     pub fn start(&mut self, step: StartStep) -> Started
         requires { asks_right (decls_in self.old) (step_of step) ≡ true }
         ensures answer { IsStarted (trace_of self.old) (step_of step) result (trace_of self.new) }
         ensures file { self.new.file ≡ self.old.file }
+        ensures interleaves { StaysInterleaved self.old self.new }
     {
+        a_longer_interleaving();
         match refusal(self.entries.as_slice(), &step) {
             Some(why) => why,
             None => self.begin(step),

@@ -1,8 +1,8 @@
 use dy_term::Word;
 use sqlite_items::Items;
 
-/// A step that starts an instance: its number, the handler and principal, the session that is gone on with, if one is,
-/// the names that are given, and the index of the message that is received, if one is.
+/// A step that starts an instance: its number, the handler, the principal and the names that are given. It has the
+/// session that is gone on with, and the index of the message that is received, if there are any.
 #[derive(Debug, Drop)]
 pub struct StartStep {
     pub step: u32,

@@ -1,5 +1,5 @@
--- The entries of a trace. An entry is named by its index, an instance by the index of its Start, and a session by the
--- index of the Start that opened it. Versions of a session's state count from 1.
+-- The entries of a trace. An entry is named by its index, and an instance by the index of its Start. A session is
+-- named by the index of the Start that opened it. Versions of a session's state count from 1.
 use Rattle.std.specs.Prelude.{ℕ, List, Option}
 use Rattle.dy_term.specs.Terms.{Term}
 use Rattle.dy_label.specs.Labels.{Place, Label}

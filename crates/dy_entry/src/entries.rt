@@ -10,14 +10,14 @@ use dy_label::{Corruption, Label, Outcome, Usage};
 use dy_term::Word;
 use sqlite_items::Items;
 
-/// An entry of a trace. It is named by its index, an instance by the index of its `Start`, and a
-/// session by the index of the `Start` that opened it. A session's versions count from 1.
+/// An entry of a trace. It is named by its index, and an instance by the index of its `Start`. A
+/// session is named by the index of the `Start` that opened it. A session's versions count from 1.
 #[derive(Debug, Drop)]
 pub enum Entry {
     /// The bytes of the protocol file.
     Setup(Items<u8>),
-    /// An instance begins: its step, handler, principal and session, the names that it is given,
-    /// and the index of the message that it is given, if it is given one.
+    /// An instance begins: its step, handler, principal, session and the names that it is given. It
+    /// has the index of the message that it is given, if it is given one.
     Start(u32, Word, Word, u32, Items<Word>, Option<u32>),
     /// A nonce that a handler makes: its instance, label and usage.
     Fresh(u32, Label, Usage),

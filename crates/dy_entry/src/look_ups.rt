@@ -74,10 +74,10 @@ pub fn newest(entries: &[Entry], principal: &Word, session: u32) -> u32
     newest
 }
 
-/// The index of the next state of this principal and tag in the order of rising sessions and, within
-/// one, of falling versions, or `None` where there is none. It looks after the session and version
-/// `from`, or from the first on where none is given. Where several states have the same session and
-/// version, the least index is answered. The entries are fewer than 2^32.
+/// The index of the next state of this principal and tag, or `None` where there is none. States are
+/// in the order of rising sessions and, within one, of falling versions. It looks after the session
+/// and version `from`, or from the first on where none is given. Where several states have the same
+/// session and version, the least index is answered. The entries are fewer than 2^32.
 pub fn find_state(
     entries: &[Entry],
     principal: &Word,

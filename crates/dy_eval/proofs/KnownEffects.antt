@@ -10,8 +10,8 @@ use Rattle.dy_eval.specs.declared.items.Item.{Item}
 use Rattle.dy_eval.specs.Doings.{Puts, Fails}
 use Rattle.dy_eval.specs.Names.{Names}
 use Rattle.dy_eval.specs.Values.{are_small}
-use Rattle.dy_eval.specs.Patterns.{matched, matched_if}
-use Rattle.dy_eval.specs.Past.{Stored, state_in, fields_tagged, gone_on}
+use Rattle.dy_eval.specs.Patterns.{match_patterns, match_if}
+use Rattle.dy_eval.specs.Past.{Stored, state_in, fields_tagged, go_on}
 use Rattle.dy_eval.specs.Effects.{puts_all}
 
 pub puts_small : (item : List Term → Item) (terms : List Term) → are_small terms ≡ true → puts_all item terms ≡ Puts (item terms) None
@@ -23,8 +23,8 @@ puts_none item terms large = rw large refl
 -- a handler goes on from what is stored as the newest version
 pub gone_on_found : (X : List Entry) (names : Names) (on : OnPart) (index : ℕ) (s : Stored)
     → state_at X names.principal names.session (newest X names.principal names.session) ≡ Some index → state_in X index ≡ Some s
-    → bytes_eq s.tag on.state.word ≡ true → gone_on X names on ≡ matched names on.pats s.fields
+    → bytes_eq s.tag on.state.word ≡ true → go_on X names on ≡ match_patterns names on.pats s.fields
 gone_on_found X names on index s at is tagged =
-    ap (λ found. matched_if names on.pats (option_and_then (fields_tagged on.state.word) (option_and_then (state_in X) found))) at
-    ∙ ap (λ found. matched_if names on.pats (option_and_then (fields_tagged on.state.word) found)) is
+    ap (λ found. match_if names on.pats (option_and_then (fields_tagged on.state.word) (option_and_then (state_in X) found))) at
+    ∙ ap (λ found. match_if names on.pats (option_and_then (fields_tagged on.state.word) found)) is
     ∙ rw tagged refl

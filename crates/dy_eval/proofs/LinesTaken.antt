@@ -12,7 +12,7 @@ use Rattle.dy_eval.specs.declared.written.Written.{Written}
 use Rattle.dy_eval.specs.Doings as doings
 use Rattle.dy_eval.specs.Names.{Names, write}
 use Rattle.dy_eval.specs.Effects.{effect}
-use Rattle.dy_eval.specs.Runs.{Puts, Ends, taken, runs}
+use Rattle.dy_eval.specs.Runs.{Puts, Ends, next_by, runs}
 use Rattle.dy_eval.specs.NamesMeaning.{names_of}
 use Rattle.dy_eval.specs.LineMeaning.{line_of}
 use Rattle.dy_eval.specs.TakenMeaning.{KeepsWritten}
@@ -25,10 +25,10 @@ lines_next lines i line within is =
 
 line_taken : (X : List Entry) (names : Names) (number : ℕ) (lines : List code.Line) (i : ℕ) (line : code.Line) (done : doings.Effect)
     → i < length lines → line ≡ get_or lines i line → done ≡ effect X names (line_of line)
-    → taken done names number (drop (i + 1) (map line_of lines)) (λ then. runs X then (number + 1) (drop (i + 1) (map line_of lines)))
+    → next_by done names number (drop (i + 1) (map line_of lines)) (λ then. runs X then (number + 1) (drop (i + 1) (map line_of lines)))
     ≡ runs X names number (drop i (map line_of lines))
 line_taken X names number lines i line done within is done_is =
-    ap (λ (e : doings.Effect). taken e names number (drop (i + 1) (map line_of lines)) (λ then. runs X then (number + 1) (drop (i + 1) (map line_of lines)))) done_is
+    ap (λ (e : doings.Effect). next_by e names number (drop (i + 1) (map line_of lines)) (λ then. runs X then (number + 1) (drop (i + 1) (map line_of lines)))) done_is
     ∙ sym (ap (runs X names number) (lines_next lines i line within is))
 
 one_later : (first i : ℕ) → first + i + 1 ≡ first + (i + 1)

@@ -13,8 +13,8 @@ use Rattle.dy_syntax.specs.Statements.{Pattern}
 use Rattle.dy_entry.specs.Entries.{Entry, Setup, Start, Fresh, Message, State, Event, Cert, End, Corrupt, Forge, Inject, Skip}
 use Rattle.dy_entry.specs.LookUps.{place_of_state, Fits, IsNext, HasNoNext}
 use Rattle.dy_eval.specs.Names.{Names}
-use Rattle.dy_eval.specs.Patterns.{fits, matched_if}
-use Rattle.dy_eval.specs.Past.{Stored, stored_by, state_in, matches, stored_before, matches_first, recalled, HasEachVersionOnce}
+use Rattle.dy_eval.specs.Patterns.{fits, match_if}
+use Rattle.dy_eval.specs.Past.{Stored, stored_by, state_in, matches, stored_before, matches_first, recall, HasEachVersionOnce}
 use Rattle.dy_eval.specs.MirrorPast.{FoundNext}
 use Rattle.dy_eval.proofs.Found.{find_none, find_only, none_passes, one_fails}
 use Rattle.dy_eval.proofs.Counting.{fewer}
@@ -199,9 +199,9 @@ module _ (X : List Entry) (names : Names) (tag : List ℕ) (patterns : List Patt
         not_true false e = refl
 
     -- The State that was found is the one that is recalled.
-    pub recalled_found : recalled X names tag patterns ≡ matched_if names patterns (Some s.fields)
+    pub recalled_found : recall X names tag patterns ≡ match_if names patterns (Some s.fields)
     recalled_found =
-        ap (λ e. matched_if names patterns (option_map (λ k. k.fields) (option_and_then stored_by e)))
+        ap (λ e. match_if names patterns (option_map (λ k. k.fields) (option_and_then stored_by e)))
         (find_only (matches_first X names tag patterns) X found.index here found.stands is_first only_first)
 
   -- Where it does not match, all that match come after it.
@@ -216,9 +216,9 @@ module _ (X : List Entry) (names : Names) (tag : List ℕ) (patterns : List Patt
 
 -- Where none is left, none is recalled.
 pub recalled_none : (X : List Entry) (names : Names) (tag : List ℕ) (patterns : List Pattern) (from : Option At)
-    → HasNoNext X names.principal tag from → Passed X names tag patterns from → recalled X names tag patterns ≡ matched_if names patterns None
+    → HasNoNext X names.principal tag from → Passed X names tag patterns from → recall X names tag patterns ≡ match_if names patterns None
 recalled_none X names tag patterns from none passed =
-    ap (λ e. matched_if names patterns (option_map (λ k. k.fields) (option_and_then stored_by e)))
+    ap (λ e. match_if names patterns (option_map (λ k. k.fields) (option_and_then stored_by e)))
     (find_none (matches_first X names tag patterns) X (λ i x there first.
     let h = and_parts (matches names tag patterns x) (not (list_any (λ other. matches names tag patterns other && stored_before other x) X)) first in
     none i (at_of x) (fits_there X names.principal tag from i x there (match_of names tag patterns x h.0).state (passed i x there h.0))))

@@ -21,7 +21,7 @@ use Rattle.dy_eval.specs.declared.items.Item.TheVariants.{Fresh, Message, State}
 use Rattle.dy_eval.specs.declared.items.Emit.TheVariants.{Put, End}
 use Rattle.dy_eval.specs.Runs.{Left, does}
 use Rattle.dy_eval.specs.Starts.{opening}
-use Rattle.dy_eval.specs.Turns.{emitted}
+use Rattle.dy_eval.specs.Turns.{emit_of}
 
 abbrev id : List ℕ → Id
 id word = record { word = word; line = 1 }
@@ -57,22 +57,22 @@ get = record {
 }
 
 -- what was sealed with the key of this index
-abbrev sealed : ℕ → Term
-sealed index = Aead (Nonce index) (Pair (Lit (codes "d")) (Lit (codes "hi"))) (Lit [])
+abbrev sealed_with : ℕ → Term
+sealed_with index = Aead (Nonce index) (Pair (Lit (codes "d")) (Lit (codes "hi"))) (Lit [])
 
-abbrev got : ℕ → Left
-got index = opening decls get (codes "bob") 5 [] (Some (sealed index))
+abbrev got_from : ℕ → Left
+got_from index = opening decls get (codes "bob") 5 [] (Some (sealed_with index))
 
-first_a_key : emitted (does [] (got 2) []) ≡ Put (Fresh labels.Nobody box_meant)
+first_a_key : emit_of (does [] (got_from 2) []) ≡ Put (Fresh labels.Nobody box_meant)
 first_a_key = refl
 
-then_a_text : emitted (does [] (got 2) (6 ∷ [])) ≡ Put (Message (Lit (codes "got")))
+then_a_text : emit_of (does [] (got_from 2) (6 ∷ [])) ≡ Put (Message (Lit (codes "got")))
 then_a_text = refl
 
-another_key_opens_nothing : emitted (does [] (got 2) (6 ∷ 7 ∷ [])) ≡ End (Stopped 3)
+another_key_opens_nothing : emit_of (does [] (got_from 2) (6 ∷ 7 ∷ [])) ≡ End (Stopped 3)
 another_key_opens_nothing = refl
 
-its_own_key_opens : emitted (does [] (got 6) (6 ∷ 7 ∷ [])) ≡ End Done
+its_own_key_opens : emit_of (does [] (got_from 6) (6 ∷ 7 ∷ [])) ≡ End Done
 its_own_key_opens = refl
 
 -- It goes on from a state, makes a key for the next version, and stores it.
@@ -87,23 +87,23 @@ two = record {
 }
 
 -- the first version of a session, stored with this tag
-abbrev stored : List ℕ → List Entry
-stored tag = entries.State 1 (codes "alice") 1 1 tag (Nonce 2 ∷ []) ∷ []
+abbrev stored_trace : List ℕ → List Entry
+stored_trace tag = entries.State 1 (codes "alice") 1 1 tag (Nonce 2 ∷ []) ∷ []
 
 abbrev goes_on : Left
 goes_on = opening decls two (codes "alice") 1 [] None
 
-a_key_for_the_next_version : emitted (does (stored (codes "S")) goes_on []) ≡ Put (Fresh (labels.One (Version (codes "alice") 1 2)) box_meant)
+a_key_for_the_next_version : emit_of (does (stored_trace (codes "S")) goes_on []) ≡ Put (Fresh (labels.One (Version (codes "alice") 1 2)) box_meant)
 a_key_for_the_next_version = refl
 
-the_next_version : emitted (does (stored (codes "S")) goes_on (8 ∷ [])) ≡ Put (State 2 (codes "S") (Nonce 8 ∷ []))
+the_next_version : emit_of (does (stored_trace (codes "S")) goes_on (8 ∷ [])) ≡ Put (State 2 (codes "S") (Nonce 8 ∷ []))
 the_next_version = refl
 
-and_ends : emitted (does (stored (codes "S")) goes_on (8 ∷ 9 ∷ [])) ≡ End Done
+and_ends : emit_of (does (stored_trace (codes "S")) goes_on (8 ∷ 9 ∷ [])) ≡ End Done
 and_ends = refl
 
-another_tag_is_no_such_state : emitted (does (stored (codes "T")) goes_on []) ≡ End (Stopped 0)
+another_tag_is_no_such_state : emit_of (does (stored_trace (codes "T")) goes_on []) ≡ End (Stopped 0)
 another_tag_is_no_such_state = refl
 
-no_state_to_go_on_from : emitted (does [] goes_on []) ≡ End (Stopped 0)
+no_state_to_go_on_from : emit_of (does [] goes_on []) ≡ End (Stopped 0)
 no_state_to_go_on_from = refl

@@ -18,9 +18,9 @@ use Rattle.dy_eval.specs.Doings.{Effect, Puts, Writes, Fails}
 use Rattle.dy_eval.specs.Lines.{Line, GoesOn, Does}
 use Rattle.dy_eval.specs.Names.{Names, bytes_at, bytes_for, principal_for}
 use Rattle.dy_eval.specs.Values.{value, if_small, are_small}
-use Rattle.dy_eval.specs.Patterns.{opened}
+use Rattle.dy_eval.specs.Patterns.{match_tuple}
 use Rattle.dy_eval.specs.Readers.{label_for, usage_for}
-use Rattle.dy_eval.specs.Past.{gone_on, key_of, recalled}
+use Rattle.dy_eval.specs.Past.{go_on, key_of, recall}
 
 -- An item of a value is put, if there is one.
 abbrev pub puts : (Term → Item) → Option Term → Effect
@@ -65,16 +65,16 @@ effect_of X names kind (s.Certify key usage) =
     puts (Cert usage.word) (option_and_then if_small (public_key kind (bytes_at names key.word)))
 effect_of X names kind (s.Find usage owner name) =
     writes name.word (option_and_then (λ principal. key_of X principal usage.word) (principal_for names owner))
-effect_of X names kind (s.Recall state pats) = recalled X names state.word pats
-effect_of X names kind (s.Split value tag pats) = opened names tag pats (Some (bytes_at names value.word))
+effect_of X names kind (s.Recall state pats) = recall X names state.word pats
+effect_of X names kind (s.Split value tag pats) = match_tuple names tag pats (Some (bytes_at names value.word))
 effect_of X names kind (s.Opened sealed key usage tag pats ad) =
-    opened names tag pats
+    match_tuple names tag pats
     (option_and_then (aead_message_with (bytes_at names sealed.word) (bytes_at names key.word))
     (if_small (value names ad)))
 effect_of X names kind (s.Popened sealed key usage tag pats) =
-    opened names tag pats (penc_message (bytes_at names sealed.word) (bytes_at names key.word))
+    match_tuple names tag pats (penc_message (bytes_at names sealed.word) (bytes_at names key.word))
 effect_of X names kind (s.Verify signed key usage tag pats) =
-    opened names tag pats (verified_message (bytes_at names signed.word) (bytes_at names key.word))
+    match_tuple names tag pats (verified_message (bytes_at names signed.word) (bytes_at names key.word))
 effect_of X names kind (s.Check code key usage tag args) =
     holds (is_same (bytes_at names code.word)
     (trees.Mac (bytes_at names key.word) (tagged_tuple tag.text (map (bytes_for names) args))))
@@ -82,5 +82,5 @@ effect_of X names kind (s.Same left right) = holds (is_same (bytes_for names lef
 
 -- what a line does
 abbrev pub effect : List Entry → Names → Line → Effect
-effect X names (GoesOn on) = gone_on X names on
+effect X names (GoesOn on) = go_on X names on
 effect X names (Does kind act) = effect_of X names kind act

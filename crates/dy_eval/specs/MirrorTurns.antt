@@ -2,7 +2,7 @@
 use Rattle.std.specs.Prelude.{◌≡◌, ℕ, Option, Some, None}
 use Rattle.dy_eval.specs.declared.instances.Instance.{Instance}
 use Rattle.dy_eval.specs.TakenMeaning.{KeepsWritten}
-use Rattle.dy_eval.specs.Runs.{Left, told, Standing, Goes, Awaits, Ended}
+use Rattle.dy_eval.specs.Runs.{Left, tell, Standing, Goes, Awaits, Ended}
 
 -- The instance is as it was, but for what is written after what was.
 pub record OnlyWrites (old new : Instance) : Type 0 where
@@ -16,5 +16,5 @@ pub record OnlyWrites (old new : Instance) : Type 0 where
 abbrev pub Told : Standing → Option ℕ → Left → Type 0
 Told (Goes left) landed now = now ≡ left
 Told (Awaits binds left) None now = now ≡ left
-Told (Awaits binds left) (Some index) now = now ≡ told index binds left
+Told (Awaits binds left) (Some index) now = now ≡ tell index binds left
 Told (Ended outcome) landed now = Unit {0}

@@ -11,7 +11,7 @@ use Rattle.dy_entry.specs.Entries.{Entry, State, Cert}
 use Rattle.dy_entry.specs.LookUps.{state_at, newest, find_cert}
 use Rattle.dy_eval.specs.Doings.{Effect}
 use Rattle.dy_eval.specs.Names.{Names}
-use Rattle.dy_eval.specs.Patterns.{fits, matched_if}
+use Rattle.dy_eval.specs.Patterns.{fits, match_if}
 
 -- what is stored: a tag and fields, as a version of a session
 pub record Stored : Type 0 where
@@ -44,10 +44,10 @@ abbrev pub fields_tagged : List ℕ → Stored → Option (List Term)
 fields_tagged tag stored = if bytes_eq stored.tag tag then Some stored.fields else None
 
 -- `on`: the newest version of the session, which must have this tag and match
-abbrev pub gone_on : List Entry → Names → OnPart → Effect
-gone_on X names on =
+abbrev pub go_on : List Entry → Names → OnPart → Effect
+go_on X names on =
     let found = state_at X names.principal names.session (newest X names.principal names.session) in
-    matched_if names on.pats (option_and_then (fields_tagged on.state.word) (option_and_then (state_in X) found))
+    match_if names on.pats (option_and_then (fields_tagged on.state.word) (option_and_then (state_in X) found))
 
 -- `find`: the first certificate of a principal for a usage
 abbrev pub key_of : List Entry → List ℕ → List ℕ → Option Term
@@ -68,13 +68,14 @@ stored_before _ _ = false
 -- The entry matches, and no other that matches comes before it.
 abbrev pub matches_first : List Entry → Names → List ℕ → List Pattern → Entry → Bool
 matches_first X names tag patterns e =
-    matches names tag patterns e && not (list_any (λ other. matches names tag patterns other && stored_before other e) X)
+    matches names tag patterns e
+    && not (list_any (λ other. matches names tag patterns other && stored_before other e) X)
 
 -- `use`: of the States that match, that of the least session and, within it, of the greatest version
-abbrev pub recalled : List Entry → Names → List ℕ → List Pattern → Effect
-recalled X names tag patterns =
+abbrev pub recall : List Entry → Names → List ℕ → List Pattern → Effect
+recall X names tag patterns =
     let found = find (matches_first X names tag patterns) X in
-    matched_if names patterns (option_map (λ s. s.fields) (option_and_then stored_by found))
+    match_if names patterns (option_map (λ s. s.fields) (option_and_then stored_by found))
 
 -- No two States are the same version of the same session of one principal.
 abbrev pub HasEachVersionOnce : List Entry → Type 0

@@ -39,8 +39,8 @@ written_by (pattern ∷ patterns) (field ∷ fields) = written_by_one pattern fi
 written_by _ _ = []
 
 -- Patterns are matched against fields.
-abbrev pub matched : Names → List Pattern → List Term → Effect
-matched names patterns fields = if fits names patterns fields then Writes (written_by patterns fields) else Fails
+abbrev pub match_patterns : Names → List Pattern → List Term → Effect
+match_patterns names patterns fields = if fits names patterns fields then Writes (written_by patterns fields) else Fails
 
 -- The first of so many terms that are nested to the right as pairs, and those after it; one more than the number.
 abbrev pub terms_in : ℕ → Term → Option (List Term)
@@ -55,11 +55,11 @@ fields_in tag (suc more) (Pair first rest) = if is_same first (Lit tag) then ter
 fields_in tag (suc more) _ = None
 
 -- The fields, if there are any, are matched.
-abbrev pub matched_if : Names → List Pattern → Option (List Term) → Effect
-matched_if names patterns None = Fails
-matched_if names patterns (Some fields) = matched names patterns fields
+abbrev pub match_if : Names → List Pattern → Option (List Term) → Effect
+match_if names patterns None = Fails
+match_if names patterns (Some fields) = match_patterns names patterns fields
 
 -- The message, if there is one, must be a tuple of this tag with as many fields as patterns, and they are matched.
-abbrev pub opened : Names → Quote → List Pattern → Option Term → Effect
-opened names tag patterns None = Fails
-opened names tag patterns (Some message) = matched_if names patterns (fields_in tag.text (length patterns) message)
+abbrev pub match_tuple : Names → Quote → List Pattern → Option Term → Effect
+match_tuple names tag patterns None = Fails
+match_tuple names tag patterns (Some message) = match_if names patterns (fields_in tag.text (length patterns) message)

@@ -18,24 +18,24 @@ pub record Left : Type 0 where
   pub number : ℕ
   pub lines : List Line
 
--- An instance puts an item, and has something left, where the nonce of the item's entry may be due in place of a
--- word; or it ends.
+-- An instance puts an item, and has something left, or it ends. The nonce of the item's entry may be due in
+-- place of a word.
 pub data Next : Type 0 where
   Puts : (item : Item) (binds : Option (List ℕ)) (left : Left) → Next
   Ends : (outcome : outcome.Outcome) → Next
 
 -- What comes of a line's effect, where it is said how the instance goes on with what is written then.
-abbrev pub taken : Effect → Names → ℕ → List Line → (Names → Next) → Next
-taken (effects.Puts item binds) names number more goes_on =
+abbrev pub next_by : Effect → Names → ℕ → List Line → (Names → Next) → Next
+next_by (effects.Puts item binds) names number more goes_on =
     Puts item binds (record { names = names; number = number + 1; lines = more })
-taken (effects.Writes more_written) names number more goes_on = goes_on (write names more_written)
-taken effects.Fails names number more goes_on = Ends (Stopped number)
+next_by (effects.Writes more_written) names number more goes_on = goes_on (write names more_written)
+next_by effects.Fails names number more goes_on = Ends (Stopped number)
 
 -- The lines are taken in order up to the first one that puts an item or fails.
 abbrev pub runs : List Entry → Names → ℕ → List Line → Next
 runs X names number [] = Ends Done
 runs X names number (line ∷ more) =
-    taken (effect X names line) names number more (λ then. runs X then (number + 1) more)
+    next_by (effect X names line) names number more (λ then. runs X then (number + 1) more)
 
 abbrev pub next_of : List Entry → Left → Next
 next_of X left = runs X left.names left.number left.lines
@@ -46,13 +46,13 @@ nonce_due None index = []
 nonce_due (Some word) index = record { word = word; bytes = Nonce index } ∷ []
 
 -- what is left once the index of the item's entry is told
-abbrev pub told : ℕ → Option (List ℕ) → Left → Left
-told index binds left =
+abbrev pub tell : ℕ → Option (List ℕ) → Left → Left
+tell index binds left =
     record { names = write left.names (nonce_due binds index); number = left.number; lines = left.lines }
 
 -- one step more, at the index of the last item
 abbrev pub step : List Entry → Next → ℕ → Next
-step X (Puts item binds left) index = next_of X (told index binds left)
+step X (Puts item binds left) index = next_of X (tell index binds left)
 step X (Ends outcome) index = Ends outcome
 
 -- the steps at these indices, one after another
@@ -65,7 +65,7 @@ steps X next (index ∷ more) = steps X (step X next index) more
 abbrev pub does : List Entry → Left → List ℕ → Next
 does X left indices = steps X (next_of X left) indices
 
--- How an instance stands between two calls: nothing is put yet, or an item was put and the index of its entry is
+-- How an instance stands between two calls. Nothing is put yet, or an item was put and the index of its entry is
 -- awaited, or it has ended.
 pub data Standing : Type 0 where
   Goes : (left : Left) → Standing

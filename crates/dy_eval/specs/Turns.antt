@@ -4,7 +4,7 @@ use Rattle.dy_entry.specs.Entries.{Entry}
 use Rattle.dy_entry.specs.LookUps.{newest}
 use Rattle.dy_eval.specs.declared.items.Emit.{Emit}
 use Rattle.dy_eval.specs.declared.items.Emit.TheVariants.{Put, End}
-use Rattle.dy_eval.specs.Runs.{Next, Puts, Ends, next_of, told, Standing, Goes, Awaits, Ended}
+use Rattle.dy_eval.specs.Runs.{Next, Puts, Ends, next_of, tell, Standing, Goes, Awaits, Ended}
 
 -- An index is told exactly where one is awaited, and nothing is asked of an instance that has ended.
 abbrev pub IsAsked : Standing → Option ℕ → Type 0
@@ -16,13 +16,13 @@ IsAsked standing landed = ⊥
 abbrev pub next_asked : List Entry → Standing → Option ℕ → Next
 next_asked X (Goes left) landed = next_of X left
 next_asked X (Awaits binds left) None = next_of X left
-next_asked X (Awaits binds left) (Some index) = next_of X (told index binds left)
+next_asked X (Awaits binds left) (Some index) = next_of X (tell index binds left)
 next_asked X (Ended outcome) landed = Ends outcome
 
 -- what is answered
-abbrev pub emitted : Next → Emit
-emitted (Puts item binds left) = Put item
-emitted (Ends outcome) = End outcome
+abbrev pub emit_of : Next → Emit
+emit_of (Puts item binds left) = Put item
+emit_of (Ends outcome) = End outcome
 
 -- how the instance stands then
 abbrev pub standing_after : Next → Standing

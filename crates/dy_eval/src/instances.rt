@@ -6,8 +6,8 @@ use dy_label::Outcome;
 use dy_term::Word;
 use sqlite_items::Items;
 
-/// How an instance stands between two calls: nothing is put yet, or the index of an item's entry is awaited, whose
-/// nonce may be due in place of a word, or it has ended.
+/// How an instance stands between two calls: nothing is put yet, or it awaits the index of an item's entry, or it
+/// has ended. The nonce of the item may be due in place of a word.
 #[derive(Debug, Drop)]
 pub(crate) enum Stand {
     Goes,

@@ -5,14 +5,14 @@ ghost use Rattle.dy_flat.specs.PartMeaning.{part_of};
 ghost use Rattle.dy_flat.specs.MirrorTuples.{fields_left};
 ghost use Rattle.dy_syntax.specs.Meaning.{quote_of, pattern_of};
 ghost use Rattle.dy_eval.specs.EffectMeaning.{as_effect};
-ghost use Rattle.dy_eval.specs.Patterns.{fields_in, opened};
+ghost use Rattle.dy_eval.specs.Patterns.{fields_in, match_tuple};
 ghost use Rattle.dy_eval.specs.Effects as effects;
 ghost use Rattle.dy_eval.specs.NamesMeaning.{names_of};
 ghost use Rattle.dy_eval.specs.ViewMeaning.{trees_of};
 
 use crate::effects::Effect;
 use crate::names::Names;
-use crate::patterns::matched;
+use crate::patterns::match_patterns;
 use dy_flat::{Fields, Parts, View, same, take_apart, tuple_fields};
 use dy_syntax::{Pattern, Quote};
 use dy_term::{Memory, Text, sameness_is_equality};
@@ -50,13 +50,13 @@ fn fields_in<'a>(
 
 /// Matches patterns against the fields of a message, which must be a tuple of this tag with as many fields. It refuses
 /// out of memory alone.
-pub(crate) fn opened(
+pub(crate) fn match_tuple(
     names: &Names,
     tag: &Quote,
     patterns: &[Pattern],
     message: Option<View>,
 ) -> Result<Effect, Memory>
-    ensures { IfOk result (λ effect. as_effect effect ≡ opened (names_of names.now) (quote_of tag.now)
+    ensures { IfOk result (λ effect. as_effect effect ≡ match_tuple (names_of names.now) (quote_of tag.now)
         (map pattern_of patterns.now) (part_of message.entry)) }
 {
     let Some(message) = message else {
@@ -64,7 +64,7 @@ pub(crate) fn opened(
     };
     match fields_in(names.alloc, message, &tag.text, patterns.len())? {
         None => Ok(Effect::Fails),
-        Some(fields) => matched(names, patterns, fields.as_slice()),
+        Some(fields) => match_patterns(names, patterns, fields.as_slice()),
     }
 }
 

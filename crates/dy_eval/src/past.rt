@@ -30,9 +30,9 @@ pub trait Past {
     fn newest(&self, principal: &Word, session: u32) -> u32
         ensures { result ≡ look_ups.newest (trace self.now) principal.now session };
 
-    /// The index of the next state of this principal and tag in the order of rising sessions and, within one, of
-    /// falling versions, after the session and version `from`, or from the first on where none is given. `None`
-    /// where there is none.
+    /// The index of the next state of this principal and tag. It is the first after the session and version `from`,
+    /// or the first of all where none is given. States are in the order of rising sessions and, within one, of falling
+    /// versions. `None` where there is none.
     fn find_state(&self, principal: &Word, tag: &Word, from: Option<(u32, u32)>) -> Option<u32>
         ensures { MatchOption result
             (HasNoNext (trace self.now) principal.now tag.now from)

@@ -3,7 +3,7 @@ ghost use Rattle.std.specs.Option.{option_map};
 ghost use Rattle.dy_flat.specs.Views.{tree_of};
 ghost use Rattle.dy_syntax.specs.Meaning.{id_of, pattern_of};
 ghost use Rattle.dy_eval.specs.EffectMeaning.{as_effect};
-ghost use Rattle.dy_eval.specs.Patterns.{fits_one, fits, variable_in, written_by_one, written_by, matched};
+ghost use Rattle.dy_eval.specs.Patterns.{fits_one, fits, variable_in, written_by_one, written_by, match_patterns};
 ghost use Rattle.dy_eval.specs.NamesMeaning.{names_of};
 
 use crate::effects::Effect;
@@ -93,13 +93,13 @@ fn written_by(alloc: Global, patterns: &[Pattern], fields: &[View]) -> Result<Ve
 }
 
 /// Matches patterns against fields. It refuses out of memory alone.
-pub(crate) fn matched(
+pub(crate) fn match_patterns(
     names: &Names,
     patterns: &[Pattern],
     fields: &[View],
 ) -> Result<Effect, Memory>
     ensures { IfOk result (λ effect.
-        as_effect effect ≡ matched (names_of names.now) (map pattern_of patterns.now) (map tree_of fields.now)) }
+        as_effect effect ≡ match_patterns (names_of names.now) (map pattern_of patterns.now) (map tree_of fields.now)) }
 {
     if fits(names, patterns, fields) {
         Ok(Effect::Writes(written_by(names.alloc, patterns, fields)?))
@@ -120,14 +120,14 @@ pub(crate) fn lent_terms(alloc: Global, terms: &[FlatTerm]) -> Result<Vec<View<'
 }
 
 /// Matches patterns against the fields of a state. It refuses out of memory alone.
-pub(crate) fn matched_terms(
+pub(crate) fn match_terms(
     names: &Names,
     patterns: &[Pattern],
     fields: &[FlatTerm],
 ) -> Result<Effect, Memory>
     ensures { IfOk result (λ effect.
-        as_effect effect ≡ matched (names_of names.now) (map pattern_of patterns.now) fields.now) }
+        as_effect effect ≡ match_patterns (names_of names.now) (map pattern_of patterns.now) fields.now) }
 {
     let lent = lent_terms(names.alloc, fields)?;
-    matched(names, patterns, lent.as_slice())
+    match_patterns(names, patterns, lent.as_slice())
 }

@@ -59,7 +59,8 @@ pub(crate) fn makes_nonce<P: Past>(
 
 /// `send`: puts a message. It refuses out of memory alone.
 pub(crate) fn sends(names: &Names, expr: &Expr) -> Result<Effect, Memory>
-    ensures { IfOk result (λ effect. as_effect effect ≡ puts Message (if_small (value (names_of names.now) (expr_of expr.now)))) }
+    ensures { IfOk result (λ effect. as_effect effect
+        ≡ puts Message (if_small (value (names_of names.now) (expr_of expr.now)))) }
 {
     match value(names, expr)? {
         None => Ok(Effect::Fails),

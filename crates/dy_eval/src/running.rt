@@ -6,7 +6,7 @@ ghost use Rattle.dy_eval.specs.Past.{HasEachVersionOnce};
 ghost use Rattle.dy_eval.specs.Starts.{opening};
 ghost use Rattle.dy_eval.specs.Runs.{Goes};
 ghost use Rattle.dy_eval.specs.Meaning.{left_of, standing_of};
-ghost use Rattle.dy_eval.specs.Turns.{IsAsked, next_asked, emitted, standing_after, HasRoomForVersions};
+ghost use Rattle.dy_eval.specs.Turns.{IsAsked, next_asked, emit_of, standing_after, HasRoomForVersions};
 ghost use Rattle.dy_eval.specs.TakenMeaning.{next_of_taken};
 ghost use Rattle.dy_eval.specs.MirrorTurns.{OnlyWrites, Told};
 
@@ -56,9 +56,9 @@ impl Instance {
         })
     }
 
-    /// Starts a handler of a file: by this principal, in this session, with these names for its arguments, and with
-    /// the message that it receives, if it receives one. The file declares the handler. It refuses out of memory
-    /// alone.
+    /// Starts a handler of a file: by this principal, in this session, and with these names for its arguments. It
+    /// is given the message that it receives, if it receives one. The file declares the handler. It refuses out of
+    /// memory alone.
     pub fn begin(
         alloc: Global,
         file: &File,
@@ -120,7 +120,7 @@ impl Instance {
 
     /// Takes note of what came of taking lines.
     fn settle(&mut self, taken: Taken) -> Emit
-        ensures emit { result ≡ emitted (next_of_taken self.old.names self.old.first self.old.lines taken) }
+        ensures emit { result ≡ emit_of (next_of_taken self.old.names self.old.first self.old.lines taken) }
         ensures stands { standing_of self.new
             ≡ standing_after (next_of_taken self.old.names self.old.first self.old.lines taken) }
     {
@@ -146,7 +146,7 @@ impl Instance {
         requires room { HasRoomForVersions (P.trace past.now) }
         requires asked { IsAsked (standing_of self.old) landed }
         ensures emit { IfOk result (λ emit.
-            emit ≡ emitted (next_asked (P.trace past.now) (standing_of self.old) landed)) }
+            emit ≡ emit_of (next_asked (P.trace past.now) (standing_of self.old) landed)) }
         ensures stands { OnOk result (standing_of self.new
             ≡ standing_after (next_asked (P.trace past.now) (standing_of self.old) landed)) }
         ensures memory { OnErr result (standing_of self.new ≡ standing_of self.old) }

@@ -3,7 +3,7 @@ ghost use Rattle.std.specs.Option.{option_and_then};
 ghost use Rattle.dy_syntax.specs.Meaning.{id_of, quote_of, nm_of, act_of, expr_of, pattern_of};
 ghost use Rattle.dy_eval.specs.EffectMeaning.{as_effect};
 ghost use Rattle.dy_eval.specs.Effects as effects;
-ghost use Rattle.dy_eval.specs.Patterns.{opened};
+ghost use Rattle.dy_eval.specs.Patterns.{match_tuple};
 ghost use Rattle.dy_flat.specs.Openings.{aead_message_with};
 ghost use Rattle.dy_eval.specs.Past.{HasEachVersionOnce, HasRoomForNext, key_of};
 ghost use Rattle.dy_eval.specs.Names.{bytes_at, bytes_for, principal_for};
@@ -19,10 +19,10 @@ use crate::effects::Effect;
 use crate::expressions::value;
 use crate::lines::Line;
 use crate::names::Names;
-use crate::openings::{opened, verified_message};
+use crate::openings::{match_tuple, verified_message};
 use crate::past::Past;
 use crate::puts::{certifies, makes_nonce, sends, stores, triggers};
-use crate::stored_states::{gone_on, recalled};
+use crate::stored_states::{go_on, recall};
 use crate::written::Written;
 use dy_flat::{FlatTerm, aead_message_with, mac, penc_message, same, tuple};
 use dy_label::Kind;
@@ -98,7 +98,7 @@ fn opens(
     patterns: &[Pattern],
     ad: &Expr,
 ) -> Result<Effect, Memory>
-    ensures { IfOk result (λ effect. as_effect effect ≡ opened (names_of names.now) (quote_of tag.now)
+    ensures { IfOk result (λ effect. as_effect effect ≡ match_tuple (names_of names.now) (quote_of tag.now)
         (map pattern_of patterns.now)
         (option_and_then (aead_message_with (bytes_at (names_of names.now) sealed.now.word)
         (bytes_at (names_of names.now) key.now.word))
@@ -112,12 +112,13 @@ fn opens(
         names.bytes_at(&key.word),
         data.view(),
     );
-    opened(names, tag, patterns, message)
+    match_tuple(names, tag, patterns, message)
 }
 
 /// `check`: whether a value is the code of a tuple by a key. It refuses out of memory alone.
 fn checks(names: &Names, code: &Id, key: &Id, tag: &Quote, args: &[Nm]) -> Result<Effect, Memory>
-    ensures { IfOk result (λ effect. as_effect effect ≡ effects.holds (is_same (bytes_at (names_of names.now) code.now.word)
+    ensures { IfOk result (λ effect. as_effect effect
+        ≡ effects.holds (is_same (bytes_at (names_of names.now) code.now.word)
         (trees.Mac (bytes_at (names_of names.now) key.now.word)
         (tagged_tuple (quote_of tag.now).text (map (bytes_for (names_of names.now)) (map nm_of args.now)))))) }
 {
@@ -143,10 +144,10 @@ fn effect_of<P: Past>(names: &Names, past: &P, kind: Kind, act: &Act) -> Result<
         Act::Store { state, fields } => stores(names, past, state, fields.as_slice()),
         Act::Certify { key, usage } => certifies(names, kind, key, usage),
         Act::Find { usage, owner, name } => finds(names, past, usage, owner, name),
-        Act::Recall { state, pats } => recalled(names, past, &state.word, pats.as_slice()),
+        Act::Recall { state, pats } => recall(names, past, &state.word, pats.as_slice()),
         Act::Split { value, tag, pats } => {
             let message = Some(names.bytes_at(&value.word));
-            opened(names, tag, pats.as_slice(), message)
+            match_tuple(names, tag, pats.as_slice(), message)
         }
         Act::Opened {
             value,
@@ -164,7 +165,7 @@ fn effect_of<P: Past>(names: &Names, past: &P, kind: Kind, act: &Act) -> Result<
             ..
         } => {
             let message = penc_message(names.bytes_at(&value.word), names.bytes_at(&key.word));
-            opened(names, tag, pats.as_slice(), message)
+            match_tuple(names, tag, pats.as_slice(), message)
         }
         Act::Verify {
             value,
@@ -174,7 +175,7 @@ fn effect_of<P: Past>(names: &Names, past: &P, kind: Kind, act: &Act) -> Result<
             ..
         } => {
             let message = verified_message(names.bytes_at(&value.word), names.bytes_at(&key.word));
-            opened(names, tag, pats.as_slice(), message)
+            match_tuple(names, tag, pats.as_slice(), message)
         }
         Act::Check {
             value,
@@ -198,7 +199,7 @@ pub(crate) fn effect<P: Past>(names: &Names, past: &P, line: &Line) -> Result<Ef
         as_effect effect ≡ effects.effect (P.trace past.now) (names_of names.now) (line_of line.now)) }
 {
     match line {
-        Line::GoesOn(on) => gone_on(names, past, on),
+        Line::GoesOn(on) => go_on(names, past, on),
         Line::Does(kind, act) => effect_of(names, past, *kind, act),
     }
 }

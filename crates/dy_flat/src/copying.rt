@@ -6,7 +6,7 @@ ghost use Rattle.dy_flat.specs.Views.{tree_of};
 use crate::contents::Contents;
 use crate::flat_nodes::Node;
 use crate::flat_terms::FlatTerm;
-use crate::lent_nodes::lent;
+use crate::lent_nodes::lend;
 use crate::runs::Run;
 use crate::views::View;
 use dy_term::Memory;
@@ -27,7 +27,7 @@ impl Run {
         requires { IsSome (read contents.now node) }
         ensures { IfOk result (λ _. map Some self.new ≡ map Some self.old ++ read contents.now node ∷ []) }
     {
-        self.push(lent(node, contents))
+        self.push(lend(node, contents))
     }
 
     /// Adds the nodes of a term.

@@ -8,10 +8,11 @@ use std::marker::Model;
 
 /// A term, as the run of its nodes in preorder, with each of its texts and names once. Contracts see the tree.
 ///
-/// A term of n nodes takes 8 n bytes and 33 for each different text and name, beside 72 of its own. One that was built
-/// may keep as much again free for texts and names, and one of `from_tree` for nodes; one of `copy` keeps nothing free.
-/// A number of nodes before a part, of texts or of names that is 2^32 or more does not fit: what would make such a term
-/// answers `Memory`. Only `from_tree` and `to_tree` are recursive, as deep as the term.
+/// A term of n nodes takes 8 n bytes and 33 for each different text and name, beside 72 of its own. One that was
+/// built may keep as much again free for texts and names. One of `from_tree` may keep as much for nodes, and one of
+/// `copy` keeps nothing free. What would make a term with too many nodes before a part, texts or names answers
+/// `Memory`. The least number that does not fit is 2^32. Only `from_tree` and `to_tree` are recursive, as deep as the
+/// term.
 #[derive(Debug, Drop)]
 pub struct FlatTerm {
     nodes: Vec<Node>,

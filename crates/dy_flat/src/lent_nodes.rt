@@ -24,7 +24,7 @@ pub(crate) enum LentNode<'a> {
 }
 
 /// Lends the text or name that a node has in these contents.
-pub(crate) fn lent<'a>(node: Node, contents: &'a Contents) -> LentNode<'a>
+pub(crate) fn lend<'a>(node: Node, contents: &'a Contents) -> LentNode<'a>
     requires { IsSome (read contents.now node) }
     ensures { read contents.now node ≡ Some (node_of result) }
 {

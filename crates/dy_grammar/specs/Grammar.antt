@@ -596,7 +596,8 @@ rules StartEnd =
     opens (codes ";") [] (λ line. (None, None)) ∷
     starts (codes "on") (name ∷ part MsgEnd ∷ [])
     (λ line step msg. (Some (record { line = line; step = step }), msg)) ∷
-    starts (codes "msg") (name ∷ dot ∷ number ∷ semicolon ∷ []) (λ line step i. (None, Some (numbered_of line step i))) ∷
+    starts (codes "msg") (name ∷ dot ∷ number ∷ semicolon ∷ [])
+    (λ line step i. (None, Some (numbered_of line step i))) ∷
     []
 rules MsgEnd =
     opens (codes ";") [] (λ line. None) ∷

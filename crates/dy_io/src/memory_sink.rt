@@ -3,7 +3,7 @@ ghost use Rattle.std.specs.Prelude.{◌≡◌, ◌<◌, Some};
 use crate::sinks::Sink;
 use crate::sources::Failed;
 
-/// A sink into memory, for tests: it takes at most `piece` bytes a call, and fails at the calls whose
+/// A sink into memory, for tests: it takes at most `piece` bytes a call. It fails at the calls whose
 /// numbers, counted from 1, are in `failing`, and where there is no memory for more.
 #[derive(Debug, Drop)]
 pub struct MemSink {

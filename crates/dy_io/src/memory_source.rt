@@ -2,7 +2,7 @@ ghost use Rattle.std.specs.Prelude.{◌≡◌, ◌<◌, Some};
 
 use crate::sources::{Failed, Source};
 
-/// A source over bytes in memory, for tests: it gives at most `piece` bytes a call, and fails at the
+/// A source over bytes in memory, for tests: it gives at most `piece` bytes a call. It fails at the
 /// calls whose numbers, counted from 1, are in `failing`.
 #[derive(Debug, Drop)]
 pub struct MemSource {

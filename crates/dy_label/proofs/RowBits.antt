@@ -48,7 +48,8 @@ is_set-shifted number bit h = eq-eqb (bit_at number bit) 1 (sym (shr_and_one num
 pub is_set-not_shifted : (number bit : ℕ) → (bit_and (number / 2 ^ bit) 1 ≡ 1 → ⊥) → is_set number bit ≡ false
 is_set-not_shifted number bit h = ne_eqb (bit_at number bit) 1 (λ e. h (shr_and_one number bit ∙ e))
 
--- Where no row of a block is lawful and set in the first and not in the second, each lawful row of the first is set in the second.
+-- Say that no row of a block is lawful and set in the first and not in the second. Then each lawful row of the first
+-- is set in the second.
 pub block_within-zero : (first second lawful : ℕ) → second < 2 ^ 64 → bit_and (bit_and first (bit_not w64 second)) lawful ≡ 0
     → (place : ℕ) → place < 64 → is_set lawful place ≡ true → is_set first place ≡ true → is_set second place ≡ true
 block_within-zero first second lawful fits h place k in_lawful in_first =

@@ -23,8 +23,8 @@ pub fn versions_are_covered_where_they_are_open()
 
 /// Readers are put in the place of those of a declaration, which are of any kind `A`. What the label
 /// in a handler stands for is the label with the places in the trace that its words stand for. A
-/// label with readers put in place is open exactly where the label is by the truth values of the
-/// readers in their places, of which `nobody` is never open.
+/// label with readers put in place is open exactly where it is by the truth values of the readers in
+/// their places. `nobody` is never open.
 pub fn readers_are_put_in_place<A>()
     ensures in_handler { (words : A → Option Atom) (choice : Choice) (label : LabelOf A) →
         meaning_of choice (with_readers words label) ≡

@@ -170,8 +170,8 @@ fn put_together(stack: &mut LabelStack, level: u32) -> Result<(), Memory> {
     }
 }
 
-/// Labels of so many levels. The deepest part is this reader; the join of a closed label or the
-/// meet of an open one stands at each level, so that the whole is open where the reader is.
+/// Labels of so many levels. The deepest part is this reader. The join of a closed label or the
+/// meet of an open one stands at each level. So the whole is open where the reader is.
 fn nested_to_the_left(alloc: Global, levels: u32, reader: Reader) -> Result<Label, Fail> {
     let mut stack = LabelStack::new(alloc);
     stack.push_reader(reader)?;

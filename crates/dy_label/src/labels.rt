@@ -11,8 +11,8 @@ use dy_term::Memory;
 use std::alloc::Global;
 use std::marker::Model;
 
-/// Who may read a value. Contracts see it as a tree. It is kept as the list of its nodes, so that
-/// a label of any depth is compared, copied and let go without calls within calls.
+/// Who may read a value. Contracts see it as a tree. It is kept as the list of its nodes. So a
+/// label of any depth is compared, copied and let go without calls within calls.
 #[derive(Debug, Drop)]
 pub struct Label {
     pub(crate) nodes: Vec<Node>,
@@ -211,7 +211,7 @@ impl<'a> LabelView<'a> {
 }
 
 /// Whether the label is open under these corruptions. It takes no memory. A label is asked in a
-/// loop that goes on with its larger part and asks the smaller one by a call, so calls stand in
+/// loop that goes on with its larger part and asks the smaller one by a call. So calls stand in
 /// calls at most as often as the number of nodes can be halved.
 pub fn is_open(label: &Label, corruptions: &[Corruption]) -> bool
     ensures { result ≡ labels.is_open (places_of corruptions.now) label.now }

@@ -1,8 +1,8 @@
 ghost use Rattle.std.specs.Prelude.{◌≡◌, ℕ, true, false};
 ghost use Rattle.dy_label.specs.StateOrder.{comes_before};
 
-/// The order of look-ups is total: no state comes before itself, of two different ones one comes
-/// first, and what comes before a second comes before what the second comes before.
+/// The order of look-ups is total. No state comes before itself, and of two different ones one
+/// comes first. What comes before a second comes before what the second comes before.
 pub fn states_are_in_one_order()
     ensures itself { (at : ℕ × ℕ) → comes_before at at ≡ false }
     ensures through { (first second third : ℕ × ℕ) → comes_before first second ≡ true →

@@ -33,8 +33,8 @@ pub const BLOCKS: usize = 64;
 /// `r % BLOCK_ROWS` of block `r / BLOCK_ROWS`.
 pub type Table = [u64; BLOCKS];
 
-/// The rows of a block, by the bits of a row's number that are set in them: one number for each bit
-/// that says which row of the block it is.
+/// The rows of a block, by the bits of a row's number that are set in them. There is one number for
+/// each bit that says which row of the block it is.
 const ROWS_WITH: [u64; 6] = [
     0xaaaa_aaaa_aaaa_aaaa,
     0xcccc_cccc_cccc_cccc,
@@ -44,7 +44,7 @@ const ROWS_WITH: [u64; 6] = [
     0xffff_ffff_0000_0000,
 ];
 
-/// The lawful rows of a block, by the three high bits of the rows' number, which are those of the
+/// The lawful rows of a block, by the three high bits of the rows' number. They are those of the
 /// session, the prior version and the next one. With the session open these are the rows in which
 /// `self` is. With no session they are all, or none where a version is open.
 const LAWFUL: [u64; 8] = [
@@ -169,8 +169,8 @@ fn block_within(first: u64, second: u64, lawful: u64) -> bool
     first & !second & lawful == 0
 }
 
-/// Whether each lawful row that is set in the first table is set in the second: of two labels'
-/// tables, whether the one label implies the other.
+/// Whether each lawful row that is set in the first table is set in the second. Of two labels'
+/// tables it says whether the one label implies the other.
 pub fn within(first: &Table, second: &Table) -> bool
     ensures rows { IsTrue result ↔ IsWithin first.now second.now }
     ensures labels { (l m : words.StaticLabel) →
@@ -185,9 +185,9 @@ pub fn within(first: &Table, second: &Table) -> bool
     true
 }
 
-/// Whether the label l implies the label m: for every choice of principals, session and versions for
-/// the handler's words, and all corruptions, where l is open so is m. Both labels use names of the
-/// scope alone.
+/// Whether the label l implies the label m: where l is open so is m. This holds for every choice of
+/// principals, session and versions for the handler's words, and all corruptions. Both labels use
+/// names of the scope alone.
 pub fn entails(l: &StaticLabel, m: &StaticLabel, scope: &Scope) -> bool
     requires first { uses_names_below scope.now (static_label_of l.now) ≡ true }
     requires second { uses_names_below scope.now (static_label_of m.now) ≡ true }

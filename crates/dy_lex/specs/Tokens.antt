@@ -1,4 +1,4 @@
--- When tokens are those of a source: it is cut into blanks and tokens from the left, each token as long
+-- When tokens are those of a source. It is cut into blanks and tokens from the left, each token as long
 -- as possible, and blanks at the end.
 use Rattle.std.specs.Prelude.{◌≡◌, ℕ, ◌+◌, true, false, ◌==◌, List, [], ◌∷◌, ◌++◌, length, map, count_by}
 use Rattle.std.specs.List.{list_all}

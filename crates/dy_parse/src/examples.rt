@@ -1,7 +1,7 @@
 //! Protocol files that are read whole.
 
 /// A public-key protocol of three messages, and a run of it.
-pub(crate) const FILE_A: &[u8] = br#"dystar 1
+pub(crate) const REPAIRED_PROTOCOL: &[u8] = br#"dystar 1
 usage pke Dec(owner);
 usage nonce Rand();
 event Respond(name b, name a, nb);
@@ -55,7 +55,7 @@ plan {
 "#;
 
 /// The same with its middle message weakened, and an attack on it.
-pub(crate) const FILE_B: &[u8] = br#"dystar 1
+pub(crate) const PUBLIC_KEY_PROTOCOL: &[u8] = br#"dystar 1
 usage pke Dec(owner);
 usage nonce Rand();
 event Respond(name b, name a, nb);
@@ -112,7 +112,7 @@ plan {
 "#;
 
 /// One message.
-pub(crate) const FILE_D: &[u8] = br#"dystar 1
+pub(crate) const ONE_MESSAGE: &[u8] = br#"dystar 1
 handler Ping args() {
   send "ping";
 }
@@ -122,7 +122,7 @@ plan {
 "#;
 
 /// A signature, and an event that follows another one.
-pub(crate) const FILE_E: &[u8] = br#"dystar 1
+pub(crate) const SIGNED_QUESTION: &[u8] = br#"dystar 1
 usage sig Sk(owner);
 event Ask(name b, x);
 event Done(name a, name b, x) after Ask(b, x) unless a;

@@ -19,9 +19,9 @@ use std::alloc::{AllocError, Global};
 
 /// Reads a protocol file of at most `MAX_SOURCE_BYTES` bytes.
 ///
-/// `BadLine` names the line of the first faulty token or, where all are tokens, of the first token after which no file
-/// goes on. `Limit` comes only where the whole source is in the grammar: with the least line on which a limit is broken
-/// and, on that line, the least limit. `Memory` says nothing of the source.
+/// `BadLine` names the line of the first faulty token or, where all are tokens, of the first token after which no
+/// file goes on. `Limit` comes only where the whole source is in the grammar. It has the least line on which a limit
+/// is broken and, on that line, the least limit. `Memory` says nothing of the source.
 pub fn parse(alloc: Global, source: &[u8]) -> Result<File, ParseError>
     requires { length source.now ≤ MAX_SOURCE_BYTES }
     ensures file { IfOk result (λ file. Reads source.now (file_of file)) }

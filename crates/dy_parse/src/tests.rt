@@ -1,5 +1,5 @@
 use super::*;
-use crate::examples::{FILE_A, FILE_B, FILE_D, FILE_E};
+use crate::examples::{ONE_MESSAGE, PUBLIC_KEY_PROTOCOL, REPAIRED_PROTOCOL, SIGNED_QUESTION};
 use dy_syntax::File;
 use std::alloc::{AllocError, Global};
 use std::test::*;
@@ -30,8 +30,8 @@ fn is_over(alloc: Global, source: &[u8], line: u32, which: LimitName) -> bool {
     }
 }
 
-/// A text that is built from parts, some of them many times: a start, so many openings, what is inside, as many
-/// closings, and an end.
+/// A text that is built from parts, some of them many times. It has a start, so many openings, what is inside,
+/// as many closings, and an end.
 #[derive(Clone, Copy)]
 struct Shape {
     start: &'static [u8],
@@ -41,7 +41,7 @@ struct Shape {
     end: &'static [u8],
 }
 
-fn built(alloc: Global, shape: &Shape, times: usize) -> Result<Vec<u8>, AllocError> {
+fn build(alloc: Global, shape: &Shape, times: usize) -> Result<Vec<u8>, AllocError> {
     let mut source = shape.start.to_vec(alloc)?;
     for _ in 0..times {
         source.extend_from_slice(shape.opening)?;
@@ -56,10 +56,10 @@ fn built(alloc: Global, shape: &Shape, times: usize) -> Result<Vec<u8>, AllocErr
 
 /// Whether so many are read, and one more is over the limit on this line.
 fn is_edge(alloc: Global, shape: &Shape, most: usize, line: u32, which: LimitName) -> bool {
-    let Ok(fits) = built(alloc, shape, most) else {
+    let Ok(fits) = build(alloc, shape, most) else {
         return false;
     };
-    let Ok(over) = built(alloc, shape, most.saturating_add(1)) else {
+    let Ok(over) = build(alloc, shape, most.saturating_add(1)) else {
         return false;
     };
     is_read(alloc, fits.as_slice()) && is_over(alloc, over.as_slice(), line, which)
@@ -306,10 +306,10 @@ fn deep_input_is_read_to_its_end(rt: HostRuntime) -> Result<(), Fail> {
         closing: b")",
         end: b"; }",
     };
-    let closed = built(alloc, &deep, 100_000)?;
+    let closed = build(alloc, &deep, 100_000)?;
     assert!(rt; is_over(alloc, closed.as_slice(), 3, LimitName::Nesting));
     let unclosed = list(b"dystar 1\nhandler A args() {\nsend ", b"hash(", b"\n");
-    let unclosed = built(alloc, &unclosed, 100_000)?;
+    let unclosed = build(alloc, &unclosed, 100_000)?;
     assert!(rt; is_bad(alloc, unclosed.as_slice(), 4));
     Ok(())
 }
@@ -320,10 +320,10 @@ fn whole_files_are_read(rt: HostRuntime) {
     let files: [&[u8]; 6] = [
         b"dystar 1",
         b"dystar 1\nplan { }",
-        FILE_A,
-        FILE_B,
-        FILE_D,
-        FILE_E,
+        REPAIRED_PROTOCOL,
+        PUBLIC_KEY_PROTOCOL,
+        ONE_MESSAGE,
+        SIGNED_QUESTION,
     ];
     assert!(rt; files.iter().all(|file| is_read(alloc, file)));
 }

@@ -47,8 +47,8 @@ fn move_values<G: Given>(
 }
 
 /// The value of a recipe, which is that of its last move. Each move is taken over the values of all earlier ones.
-/// `None` exactly where the recipe is empty or some move has no value: it names no earlier move, a leaf is not given,
-/// an operation does not apply, or the value has more than 1,024 nodes. The one refusal is out of memory.
+/// `None` exactly where the recipe is empty or some move has no value. Such a move names no earlier move, a leaf is
+/// not given, an operation does not apply, or the value has more than 1,024 nodes. The one refusal is out of memory.
 pub fn apply<G: Given>(
     alloc: Global,
     recipe: &Recipe,

@@ -1,5 +1,5 @@
--- Each rule of a part makes a value whose canonical text has the tokens that the rule asks for, but for an empty table
--- and a plan of no rounds, which are left out.
+-- Each rule of a part makes a value whose canonical text has the tokens that the rule asks for. An empty table and a
+-- plan of no rounds are left out.
 use Rattle.std.proofs.Common.{◌≡◌, ℕ, true, List, [], ◌∷◌, ◌++◌, map, refl, sym, ap, append_assoc, inl, inr, arith}
 use Rattle.std.specs.Prelude.{codes, ◌⊎◌}
 use Rattle.std.specs.Fmt.{digits}

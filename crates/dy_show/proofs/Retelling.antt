@@ -132,22 +132,22 @@ absent_retold p v out =
     let empty = absent_shown p v out in
     record { lawful = rw empty tt; few = rw empty (omega arith); told = absent_told p v out empty }
 
-abbrev made : (p : Part) (rule : RuleOf (PartValue p)) (t : Piece) → Values PartValue rule.more → PartValue p
-made p rule t vs = apply PartValue (PartValue p) rule.more (rule.make (token_value rule.first t)) vs
+abbrev value_made : (p : Part) (rule : RuleOf (PartValue p)) (t : Piece) → Values PartValue rule.more → PartValue p
+value_made p rule t vs = apply PartValue (PartValue p) rule.more (rule.make (token_value rule.first t)) vs
 
 -- a node by this rule, where the canonical text has the tokens that the rule asks for
 node_told : (p : Part) (rule : RuleOf (PartValue p)) (is_rule : IsAmong rule (rules p)) (t : Piece) (fits : accepts rule.first t ≡ true)
-    (vs : Values PartValue rule.more) → is_within p (made p rule t vs) ≡ true → PartRule p rule
+    (vs : Values PartValue rule.more) → is_within p (value_made p rule t vs) ≡ true → PartRule p rule
     → ((us : List Piece) → map piece_shape us ≡ all_shown rule.more vs → ToldAll rule.more vs us)
-    → part_shapes p (made p rule t vs) ≡ piece_shape t ∷ all_shown rule.more vs
-    → (us : List Piece) → map piece_shape us ≡ part_shapes p (made p rule t vs) → Told p (made p rule t vs) us
+    → part_shapes p (value_made p rule t vs) ≡ piece_shape t ∷ all_shown rule.more vs
+    → (us : List Piece) → map piece_shape us ≡ part_shapes p (value_made p rule t vs) → Told p (value_made p rule t vs) us
 node_told p rule is_rule t fits vs within by more is [] same = absurd (let bad : ◌≡◌ {A = List Shape} [] (piece_shape t ∷ all_shown rule.more vs) = same ∙ is in cc)
 node_told p rule is_rule t fits vs within by more is (u ∷ us) same =
     let both : ◌≡◌ {A = List Shape} (piece_shape u ∷ map piece_shape us) (piece_shape t ∷ all_shown rule.more vs) = same ∙ is in
     let first : piece_shape u ≡ piece_shape t = ap (first_of (piece_shape u)) both in
     let rest : map piece_shape us ≡ all_shown rule.more vs = ap rest_of both in
     let told = more us rest in
-    let same_value : bare p (made p rule u (values told.trees)) ≡ bare p (made p rule t vs) =
+    let same_value : bare p (value_made p rule u (values told.trees)) ≡ bare p (value_made p rule t vs) =
     by.respects (token_value rule.first u) (values told.trees)
     ∙ ap (λ (k : TokenValue rule.first). apply PartValue (PartValue p) rule.more (rule.make k) (bare_values rule.more (values told.trees))) (kept_same rule.first t u first)
     ∙ ap (λ (ws : Values PartValue rule.more). apply PartValue (PartValue p) rule.more (rule.make (bare_value rule.first (token_value rule.first t))) ws) told.same
@@ -160,11 +160,11 @@ node_told p rule is_rule t fits vs within by more is (u ∷ us) same =
     }
 
 node_retold : (p : Part) (rule : RuleOf (PartValue p)) (is_rule : IsAmong rule (rules p)) (t : Piece) (fits : accepts rule.first t ≡ true) (ts : Trees rule.more)
-    → is_within p (made p rule t (values ts)) ≡ true → PartRule p rule → IsLawful (piece_shape t) → RetoldAll rule.more (values ts) (all_leaves ts)
-    → (part_shapes p (made p rule t (values ts)) ≡ value_shape rule.first (token_value rule.first t) ∷ all_shown rule.more (values ts)) ⊎ IsOther p (made p rule t (values ts)) (silent_ends rule.more)
-    → Retold p (made p rule t (values ts)) (t ∷ all_leaves ts)
+    → is_within p (value_made p rule t (values ts)) ≡ true → PartRule p rule → IsLawful (piece_shape t) → RetoldAll rule.more (values ts) (all_leaves ts)
+    → (part_shapes p (value_made p rule t (values ts)) ≡ value_shape rule.first (token_value rule.first t) ∷ all_shown rule.more (values ts)) ⊎ IsOther p (value_made p rule t (values ts)) (silent_ends rule.more)
+    → Retold p (value_made p rule t (values ts)) (t ∷ all_leaves ts)
 node_retold p rule is_rule t fits ts within by lawful more (inl shows) =
-    let is : part_shapes p (made p rule t (values ts)) ≡ piece_shape t ∷ all_shown rule.more (values ts) =
+    let is : part_shapes p (value_made p rule t (values ts)) ≡ piece_shape t ∷ all_shown rule.more (values ts) =
     shows ∙ ap (λ (s : Shape). s ∷ all_shown rule.more (values ts)) (kept_again rule.first t fits lawful) in
     record {
       lawful = subst (λ (xs : List Shape). AreLawful xs) (sym is) (lawful, more.lawful);
@@ -221,7 +221,7 @@ part_told p ss v vs one more us same =
 mutual
   pub retold : {p : Part} (x : Tree p) → is_shallow x ≡ true → AreLawful (map piece_shape (leaves x)) → Retold p (value x) (leaves x)
   retold {p = p} (node rule is_rule t fits ts) shallow lawful =
-      let both = and_parts (is_within p (made p rule t (values ts))) (are_shallow ts) shallow in
+      let both = and_parts (is_within p (value_made p rule t (values ts))) (are_shallow ts) shallow in
       let by = among_rules p (rules p) rule is_rule (part_rules p) in
       node_retold p rule is_rule t fits ts both.0 by lawful.0 (retold_all ts by.plain both.1 lawful.1) (by.shows (token_value rule.first t) (values ts) both.0)
   retold {p = p} (absent v out) shallow lawful = absent_retold p v out

@@ -15,7 +15,7 @@ use Rattle.dy_eval.specs.declared.items.Item.TheVariants as items
 use Rattle.dy_eval.specs.Doings.{Puts, Writes, Fails}
 use Rattle.dy_eval.specs.Names.{Names, bytes_at, bytes_for}
 use Rattle.dy_eval.specs.Values.{value, are_small}
-use Rattle.dy_eval.specs.Patterns.{fits, written_by, matched_if, opened}
+use Rattle.dy_eval.specs.Patterns.{fits, written_by, match_if, match_tuple}
 use Rattle.dy_eval.specs.Readers.{label_for, usage_for}
 use Rattle.dy_eval.specs.Effects.{puts, puts_all, writes, effect_of}
 use Rattle.dy_sound.specs.StatementsAreSound.{WritesSoundly, PutsSoundly, StatementsAreSound}
@@ -39,12 +39,12 @@ either_no_item true more item binds is = absurd cc
 either_no_item false more item binds is = absurd cc
 
 pub matched_no_item : (names : Names) (pats : List Pattern) (fields : Option (List Term)) (item : Item) (binds : Option (List ℕ))
-    → matched_if names pats fields ≡ Puts item binds → ⊥
+    → match_if names pats fields ≡ Puts item binds → ⊥
 matched_no_item names pats None item binds is = absurd cc
 matched_no_item names pats (Some fields) item binds is = either_no_item (fits names pats fields) (written_by pats fields) item binds is
 
 opened_no_item : (names : Names) (tag : Quote) (pats : List Pattern) (message : Option Term) (item : Item) (binds : Option (List ℕ))
-    → opened names tag pats message ≡ Puts item binds → ⊥
+    → match_tuple names tag pats message ≡ Puts item binds → ⊥
 opened_no_item names tag pats None item binds is = absurd cc
 opened_no_item names tag pats (Some message) item binds is = matched_no_item names pats _ item binds is
 

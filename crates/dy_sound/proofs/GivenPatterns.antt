@@ -75,8 +75,8 @@ both_none (x ∷ xs) ys none = absurd cc
 
 module _ (equal : SameAreEqual) (setting : Setting) (choice : Choice) (newest : ℕ) (start then : Names)
     (matches : HandlerMatches setting.names newest then choice) (scope : Scope) where
-  -- What each pattern of these needs: its variable has its own value, and is bound; what is compared with has the value that it had,
-  -- and is bound; and what binds a name binds a name of the handler.
+  -- What each pattern of these needs. Its variable has its own value, and is bound. What is compared with has the
+  -- value that it had, and is bound. What binds a name binds a name of the handler.
   pub record ArePlaced (pats : List Pattern) (fields : List Term) : Type 0 where
     pub values_are : (written : Written) → Contains (written_by pats fields) written → bytes_at then written.word ≡ written.bytes
     pub are_bound : (written : Written) → Contains (written_by pats fields) written → is_among written.word (words_written then) ≡ true

@@ -9,7 +9,7 @@ use Rattle.dy_syntax.specs.Files.{Decl, File}
 use Rattle.dy_entry.specs.Entries.{Entry, Start, Message, State, Event, Cert, Inject}
 use Rattle.dy_eval.specs.declared.items.Item.{Item}
 use Rattle.dy_eval.specs.declared.items.Item.TheVariants as items
-use Rattle.dy_eval.specs.Runs.{Left, Puts, next_of, told}
+use Rattle.dy_eval.specs.Runs.{Left, Puts, next_of, tell}
 use Rattle.dy_eval.specs.Starts.{opening}
 use Rattle.dy_traces.specs.Instances.{is_item_of, items_of, indices_from, entry_for}
 use Rattle.dy_traces.specs.Following.{message_at}
@@ -26,8 +26,8 @@ use Rattle.dy_sound.proofs.OneMore.{good_with_more}
 abbrev pub with_item : {decls : List Decl} (T : List Entry) (instance : ℕ) {handler : Handler} {left : Left} → IsUnfinished decls T instance handler left → Item → List Entry
 with_item T instance h item = T ++ entry_for instance h.principal h.session item ∷ []
 
--- What is to be shown of the statements of a file's handlers: in a good interleaving, what an unfinished instance puts
--- next is good, and so is the instance once its entry's index is told.
+-- What is to be shown of the statements of a file's handlers. In a good interleaving, what an unfinished instance
+-- puts next is good, and so is the instance once its entry's index is told.
 pub record PutsWell (bytes : List ℕ) (file : File) : Type 0 where
   pub item_is_good : (T : List Entry) (instance : ℕ) (handler : Handler) (left : Left) (item : Item) (binds : Option (List ℕ)) (after : Left)
       → Interleaves bytes file T → IsGood file.decls T → (h : IsUnfinished file.decls T instance handler left)
@@ -36,7 +36,7 @@ pub record PutsWell (bytes : List ℕ) (file : File) : Type 0 where
   pub stays_good : (T : List Entry) (instance : ℕ) (handler : Handler) (left : Left) (item : Item) (binds : Option (List ℕ)) (after : Left)
       → Interleaves bytes file T → IsGood file.decls T → (h : IsUnfinished file.decls T instance handler left)
       → next_of (take instance T) left ≡ Puts item binds after
-      → IsGoodSoFar file.decls (with_item T instance h item) (take instance T) handler (told (length T) binds after)
+      → IsGoodSoFar file.decls (with_item T instance h item) (take instance T) handler (tell (length T) binds after)
 
 -- One entry more that passes a test adds its index.
 one_index_more : (test : Entry → Bool) (n : ℕ) (T : List Entry) (e : Entry) → test e ≡ true
@@ -145,7 +145,7 @@ module _ (below : LawsBelow) (bytes : List ℕ) (file : File) (well : PutsWell b
 
   -- The instance is unfinished once the item is put, and has what is left after it.
   left_with_item : (own : Handler) (rest : Left) → IsUnfinished file.decls (T ++ entry ∷ []) instance own rest
-      → (handler ≡ own) × (told (length T) binds after ≡ rest)
+      → (handler ≡ own) × (tell (length T) binds after ≡ rest)
   left_with_item own rest u =
       let inside = below_length T instance _ h.stands in
       let start_is = in_longer T (entry ∷ []) instance _ h.stands in
@@ -158,7 +158,7 @@ module _ (below : LawsBelow) (bytes : List ℕ) (file : File) (well : PutsWell b
       ≡ opening file.decls own u.principal u.session u.args (option_and_then (message_at (take instance T)) u.message) = cc in
       let X = take instance T in
       let start = opening file.decls handler h.principal h.session h.args (option_and_then (message_at X) h.message) in
-      let here : left_after X start (items_of T instance ++ length T ∷ []) ≡ Some (told (length T) binds after) =
+      let here : left_after X start (items_of T instance ++ length T ∷ []) ≡ Some (tell (length T) binds after) =
       fold-append (with_item_at X) (Some start) (items_of T instance) (length T ∷ [])
       ∙ ap (λ (at : Option Left). with_item_at X at (length T)) h.has_left
       ∙ ap (left_told (length T)) puts in
@@ -178,7 +178,7 @@ module _ (below : LawsBelow) (bytes : List ℕ) (file : File) (well : PutsWell b
       let lefts = left_with_item own rest u_here in
       subst (λ (i : ℕ). IsGoodSoFar file.decls (T ++ entry ∷ []) (take i T) own rest) same
       (subst (λ (l : Left). IsGoodSoFar file.decls (T ++ entry ∷ []) (take instance T) own l) lefts.1
-      (subst (λ (o : Handler). IsGoodSoFar file.decls (T ++ entry ∷ []) (take instance T) o (told (length T) binds after)) lefts.0
+      (subst (λ (o : Handler). IsGoodSoFar file.decls (T ++ entry ∷ []) (take instance T) o (tell (length T) binds after)) lefts.0
       (well.stays_good T instance handler left item binds after is_one good h puts)))
 
   none_starts : (own : Handler) (rest : Left) → IsUnfinished file.decls (T ++ entry ∷ []) (length T) own rest → ⊥

@@ -77,3 +77,5 @@ pub mod StatesFound
 pub mod RecallStatement
 pub mod OnStatement
 pub mod AllStatements
+pub mod SecurityDecided
+pub mod LowesSecrets

@@ -8,7 +8,7 @@ use Rattle.dy_syntax.specs.Files.{Decl}
 use Rattle.dy_syntax.specs.LookUps.{handler_named}
 use Rattle.dy_entry.specs.Entries.{Entry, Setup, Start, Fresh, Message, State, Event, Cert, End, Corrupt, Forge, Inject, Skip}
 use Rattle.dy_eval.specs.declared.items.Item.{Item}
-use Rattle.dy_eval.specs.Runs.{Left, Next, Puts, Ends, next_of, told, step, steps, does}
+use Rattle.dy_eval.specs.Runs.{Left, Next, Puts, Ends, next_of, tell, step, steps, does}
 use Rattle.dy_eval.specs.Starts.{opening}
 use Rattle.dy_traces.specs.Instances.{items_of, end_of, entry_for, entry_of_next, does_next, entry_next, next_entry}
 use Rattle.dy_traces.specs.Following.{message_at}
@@ -46,7 +46,7 @@ stands_later : (X : List Entry) (start : Left) (index : ℕ) (more : List ℕ) (
     → StandsAt X start (index ∷ more) item binds after
 stands_later X start index more item binds after from (Ends outcome) next_is is = let ended = ended_stays X outcome more in absurd cc
 stands_later X start index more item binds after from (Puts own own_binds left) next_is is =
-    let rest = from (told index own_binds left) is in
+    let rest = from (tell index own_binds left) is in
     record {
       left = rest.left;
       has_left = ap (λ (next : Next). fold (with_item_at X) (left_told index next) more) next_is ∙ rest.has_left;

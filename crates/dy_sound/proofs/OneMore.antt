@@ -113,8 +113,8 @@ unfinished_before decls T e instance handler left no_item inside h =
           (subst (λ (items : List ℕ). left_after (take instance (T ++ e ∷ [])) (opening decls handler h.principal h.session h.args (option_and_then (message_at (take instance (T ++ e ∷ []))) h.message)) items ≡ Some left) same_items h.has_left);
     }
 
--- What a good trace asks of its last entry: what its kind asks, and of the instance that puts it or starts by it, what
--- is asked of unfinished instances.
+-- What a good trace asks of its last entry. It is what its kind asks and, of the instance that puts it or starts by
+-- it, what is asked of unfinished instances.
 pub record IsGoodLast (decls : List Decl) (T : List Entry) (e : Entry) : Type 0 where
   pub message : (instance : ℕ) (value : Term) → e ≡ Message instance value → MayBeKnown decls (T ++ e ∷ []) value
   pub injection : (step : ℕ) (value : Term) → e ≡ Inject step value → MayBeKnown decls (T ++ e ∷ []) value

@@ -26,7 +26,7 @@ use Rattle.dy_eval.specs.Doings.{Writes, Fails}
 use Rattle.dy_eval.specs.Names.{Names, write, bytes_at}
 use Rattle.dy_eval.specs.Values.{value, if_small}
 use Rattle.std.specs.Option.{option_and_then}
-use Rattle.dy_eval.specs.Patterns.{fits, written_by, fields_in, matched_if, opened}
+use Rattle.dy_eval.specs.Patterns.{fits, written_by, fields_in, match_if, match_tuple}
 use Rattle.dy_eval.specs.Effects.{verified_message}
 use Rattle.dy_sound.specs.Valid.{IsValid}
 use Rattle.dy_sound.specs.Knowledge.{Holds}
@@ -59,13 +59,13 @@ fits_and_writes true written more is = (refl, cc)
 fits_and_writes false written more is = absurd cc
 
 was_matched : (names : Names) (tag : Quote) (pats : List Pattern) (message : Term) (more : List Written) (fields : Option (List Term))
-    → fields_in tag.text (length pats) message ≡ fields → matched_if names pats fields ≡ Writes more → WasOpened names tag pats (Some message) more
+    → fields_in tag.text (length pats) message ≡ fields → match_if names pats fields ≡ Writes more → WasOpened names tag pats (Some message) more
 was_matched names tag pats message more None found is = absurd cc
 was_matched names tag pats message more (Some fields) found is =
     let parts = fits_and_writes (fits names pats fields) (written_by pats fields) more is in
     record { message = message; found_is = refl; fields = fields; fields_are = found; fit = parts.0; more_are = parts.1 }
 
-pub was_opened : (names : Names) (tag : Quote) (pats : List Pattern) (found : Option Term) (more : List Written) → opened names tag pats found ≡ Writes more
+pub was_opened : (names : Names) (tag : Quote) (pats : List Pattern) (found : Option Term) (more : List Written) → match_tuple names tag pats found ≡ Writes more
     → WasOpened names tag pats found more
 was_opened names tag pats None more is = absurd cc
 was_opened names tag pats (Some message) more is = was_matched names tag pats message more (fields_in tag.text (length pats) message) refl is

@@ -19,7 +19,7 @@ use Rattle.dy_flat.specs.Openings.{penc_message, aead_message_with}
 use Rattle.dy_typing.specs.Names.{Setting, name_number, case_stands, patterns_names}
 use Rattle.dy_typing.specs.Knowledge.{Knowledge, known_of}
 use Rattle.dy_typing.specs.Instances.{use_in}
-use Rattle.dy_typing.specs.Effects.{compared, opened_with, match_case}
+use Rattle.dy_typing.specs.Effects.{guard_of_compared, opened_with, match_case}
 use Rattle.dy_entry.specs.Entries.{Entry}
 use Rattle.dy_entry.specs.ValueLabels.{label_of}
 use Rattle.dy_eval.specs.Names.{Names, write, bytes_at, bytes_for}
@@ -82,7 +82,7 @@ module _ (decls : List Decl) (T : List Entry) (tag : List ℕ) (fields : List Te
         record { opens = λ C over opened. (and_parts (is_open C (label_of T a)) (is_open C (label_of T b)) (whole.opens C over opened)).1 },
       )) tag fields
 
--- A case is opened: a message is a tuple of its fields, which fit the patterns, and what stands for its words in the
+-- A case is opened. A message is a tuple of its fields, which fit the patterns. What stands for its words in the
 -- handler means what they mean in the trace.
 pub record IsOpened (setting : Setting) (T : List Entry) (choice : Choice) (start : Names) (usage : UseText) (tag : List ℕ)
     (pats : List Pattern) (message : Term) (fields : List Term) : Type 0 where
@@ -103,7 +103,7 @@ module _ (below : LawsBelow) (equal : SameAreEqual) (setting : Setting) (T : Lis
     (h : Holds setting.decls T choice start k) where
   -- The guard of what is compared is open where all fields are.
   compared_shown : (pats : List Pattern) (fields : List Term) → fits start pats fields ≡ true
-      → ((field : Term) → Contains fields field → IsShown T (label_of T field)) → IsShown T (meaning_of choice (compared k pats))
+      → ((field : Term) → Contains fields field → IsShown T (label_of T field)) → IsShown T (meaning_of choice (guard_of_compared k pats))
   compared_shown [] fields fit shown = record { is_open_now = refl }
   compared_shown (pat ∷ pats) [] fit shown = absurd cc
   compared_shown (Bind name ∷ pats) (field ∷ fields) fit shown =
@@ -175,15 +175,15 @@ module _ (below : LawsBelow) (equal : SameAreEqual) (setting : Setting) (T : Lis
     pub popen_holds : (key : Id) → HasUse setting.decls T (bytes_at start key.word) own_usage
         → IsEncrypted setting.decls T (Pk (bytes_at start key.word)) message
         → Holds setting.decls T choice names_then
-        (match_case setting k (opened_with (known_of k (Named key)) (compared k pats)) (compared k pats) usage tag.text pats)
+        (match_case setting k (opened_with (known_of k (Named key)) (guard_of_compared k pats)) (guard_of_compared k pats) usage tag.text pats)
     popen_holds key (inr shown) encrypted =
         let open_ = message_shown below setting.decls T (bytes_at start key.word) message encrypted shown in
-        all_shown (known_of k (Named key)) (compared k pats) open_ (compared_shown pats fields opening.fit (opened_fields_shown open_))
+        all_shown (known_of k (Named key)) (guard_of_compared k pats) open_ (compared_shown pats fields opening.fit (opened_fields_shown open_))
     popen_holds key (inl has) (inr open_) =
-        all_shown (known_of k (Named key)) (compared k pats) open_ (compared_shown pats fields opening.fit (opened_fields_shown open_))
+        all_shown (known_of k (Named key)) (guard_of_compared k pats) open_ (compared_shown pats fields opening.fit (opened_fields_shown open_))
     popen_holds key (inl has) (inl by_rules) =
         let same : by_rules.key ≡ bytes_at start key.word = let is = by_rules.to_is in cc in
-        all_sealed (known_of k (Named key)) (compared k pats)
+        all_sealed (known_of k (Named key)) (guard_of_compared k pats)
         (through _ _ _ (known_of_name setting.decls T choice start k h (Named key)).is_open_by_hi
         (subst (λ (v : Term). Flows T (label_of T v) (label_of T message)) same by_rules.readers_may_know))
         (sealed_by (bytes_at start key.word) has (subst (λ (v : Term). CaseHolds setting.decls T v message) same by_rules.case_holds))
@@ -191,11 +191,11 @@ module _ (below : LawsBelow) (equal : SameAreEqual) (setting : Setting) (T : Lis
     pub open_holds : (key : Id) → HasUse setting.decls T (bytes_at start key.word) own_usage
         → Flows T (label_of T (bytes_at start key.word)) (label_of T message) → IsUnder setting.decls T (bytes_at start key.word) message
         → Holds setting.decls T choice names_then
-        (match_case setting k (opened_with (known_of k (Named key)) (Meet (known_of k (Named key)).lo (compared k pats)))
-        (Meet (known_of k (Named key)).lo (compared k pats)) usage tag.text pats)
+        (match_case setting k (opened_with (known_of k (Named key)) (Meet (known_of k (Named key)).lo (guard_of_compared k pats)))
+        (Meet (known_of k (Named key)).lo (guard_of_compared k pats)) usage tag.text pats)
     open_holds key has reads under =
         let known = known_of_name setting.decls T choice start k h (Named key) in
-        let guard = Meet (known_of k (Named key)).lo (compared k pats) in
+        let guard = Meet (known_of k (Named key)).lo (guard_of_compared k pats) in
         let forged : IsShown T (label_of T (bytes_at start key.word)) → Holds setting.decls T choice names_then
         (match_case setting k (opened_with (known_of k (Named key)) guard) guard usage tag.text pats) = λ shown.
         let open_ = shown_by_flow below setting.decls T reads shown in

@@ -7,7 +7,7 @@ use Rattle.dy_syntax.specs.Scopes.{Scope}
 use Rattle.dy_typing.specs.Names.{Setting, Stands, stands_number, atom_names}
 use Rattle.dy_typing.specs.Instances.{label_in}
 use Rattle.dy_typing.specs.Knowledge.{Knowledge}
-use Rattle.dy_typing.specs.Demands.{PartnerStands, Owed, numbered_from, required, owed}
+use Rattle.dy_typing.specs.Demands.{PartnerStands, Owed, numbered_from, requirement_of, partners_owed}
 use Rattle.dy_typing.specs.Conditions.{IsMet, AreMet}
 use Rattle.dy_entry.specs.Entries.{Entry}
 use Rattle.dy_eval.specs.Names.{Names, bytes_for}
@@ -41,7 +41,7 @@ module _ (below : LawsBelow) (setting : Setting) (T : List Entry) (choice : Choi
     (scope : Scope) (stands : Stands) (here : Option Atom) (words : Words) (matches : Matches setting choice names scope stands here words) where
   abbrev owed_for : ℕ → Partner → Owed
   owed_for number partner = record {
-    event = required stands number partner.atom;
+    event = requirement_of stands number partner.atom;
     unless = label_in (stands_number setting stands) here partner.unless;
   }
 
@@ -58,7 +58,7 @@ module _ (below : LawsBelow) (setting : Setting) (T : List Entry) (choice : Choi
         | inr shown ↦ inr (subst (λ (l : Label). IsShown T l) (label_means setting choice names scope stands here words matches partner.unless label_read) shown)
       ]
 
-  pub partners_hold : (partners : List Partner) → AreMet setting.decls k (map PartnerStands (owed setting stands here partners)) → (partner : Partner) → Contains partners partner
+  pub partners_hold : (partners : List Partner) → AreMet setting.decls k (map PartnerStands (partners_owed setting stands here partners)) → (partner : Partner) → Contains partners partner
       → AtomIsInScope scope partner.atom → LabelIsInScope scope partner.unless → HasPartner T words partner
   partners_hold partners met partner has atom_read label_read =
       let at = in_numbered PartnerStands owed_for 1 partners partner has in

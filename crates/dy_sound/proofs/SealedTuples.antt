@@ -14,7 +14,7 @@ use Rattle.dy_typing.specs.Names.{Setting, Stands, name_number, stands_number, c
 use Rattle.dy_typing.specs.Instances.{use_in, type_in}
 use Rattle.dy_typing.specs.Knowledge.{Knowledge}
 use Rattle.dy_typing.specs.Expressions.{known_of_expr}
-use Rattle.dy_typing.specs.Demands.{Sealing, Fitted, Demand, FieldFits, EventStands, Seals, numbered_from, required, sealing_of, case_field_demands, field_demands, case_event_demands, event_demands}
+use Rattle.dy_typing.specs.Demands.{Sealing, Fitted, Demand, FieldFits, EventStands, Seals, numbered_from, requirement_of, sealing_of, case_field_demands, field_demands, case_event_demands, event_demands}
 use Rattle.dy_typing.specs.Conditions.{IsPublic, sealer_hi, IsMet, AreMet}
 use Rattle.dy_entry.specs.Entries.{Entry}
 use Rattle.dy_entry.specs.LookUps.{corruptions}
@@ -111,7 +111,7 @@ module _ (below : LawsBelow) (T : List Entry) (setting : Setting) (choice : Choi
 
   -- The event stands for the case, or all may seal the tuple.
   event_stands_or_shown : (n : ℕ) (atom : AtomText) → AtomIsInScope (case_scope setting.decls of_case.case) atom
-      → IsMet setting.decls k (EventStands sealing (required sealed_stands n atom)) → HasHappenedFor T sealed_words atom ⊎ SealerIsShown
+      → IsMet setting.decls k (EventStands sealing (requirement_of sealed_stands n atom)) → HasHappenedFor T sealed_words atom ⊎ SealerIsShown
   event_stands_or_shown n atom read (inr public) = inr (shown_if_public T choice (sealer_hi setting.decls k sealing) public)
   event_stands_or_shown n atom read (inl known) =
       elim (happened_or_shown setting.decls T choice names k h below atom.event.word (sealer_hi setting.decls k sealing) (atom_names sealed_stands atom) known) [
@@ -125,12 +125,12 @@ module _ (below : LawsBelow) (T : List Entry) (setting : Setting) (choice : Choi
 
   -- Each event of the case stands, or all may seal the tuple.
   events_stand : (n : ℕ) (atoms : List AtomText) → ((atom : AtomText) → Contains atoms atom → AtomIsInScope (case_scope setting.decls of_case.case) atom)
-      → AreMet setting.decls k (map (EventStands sealing) (numbered_from n (required sealed_stands) atoms))
+      → AreMet setting.decls k (map (EventStands sealing) (numbered_from n (requirement_of sealed_stands) atoms))
       → ((atom : AtomText) → Contains atoms atom → HasHappenedFor T sealed_words atom) ⊎ SealerIsShown
   events_stand n [] read met = inl (λ (atom : AtomText) (none : Contains [] atom). absurd (Contains-none atom none))
   events_stand n (atom ∷ atoms) read met =
-      let rest = map (EventStands sealing) (numbered_from (suc n) (required sealed_stands) atoms) in
-      let own : Demand = EventStands sealing (required sealed_stands n atom) in
+      let rest = map (EventStands sealing) (numbered_from (suc n) (requirement_of sealed_stands) atoms) in
+      let own : Demand = EventStands sealing (requirement_of sealed_stands n atom) in
       let later = events_stand (suc n) atoms (λ (other : AtomText) (has : Contains atoms other). read other (Contains-later atom atoms other has))
       (λ (demand : Demand) (has : Contains rest demand). met demand (Contains-later own rest demand has)) in
       elim (event_stands_or_shown n atom (read atom (Contains-first atom atoms)) (met own (Contains-first own rest))) [

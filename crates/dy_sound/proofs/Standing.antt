@@ -1,5 +1,5 @@
--- How an instance stands between two items: its lines are those of its handler from a number on, and its words are those
--- that are bound before it.
+-- How an instance stands between two items. Its lines are those of its handler from a number on, and its words are
+-- those that are bound before it.
 use Rattle.std.proofs.Common.{◌≡◌, ℕ, zero, suc, true, List, [], ◌∷◌, ◌++◌, map, take, drop, Contains, Option, Some, inl, inr, refl, sym, ap, subst, ◌∙◌, append_assoc, arith}
 use Rattle.std.specs.Option.{option_to_list}
 use Rattle.std.specs.List.{flat_map}

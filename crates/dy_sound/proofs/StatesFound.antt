@@ -13,8 +13,8 @@ use Rattle.dy_entry.specs.LookUps.{newest, is_version_of, state_at}
 use Rattle.dy_eval.specs.declared.written.Written.{Written}
 use Rattle.dy_eval.specs.Doings.{Writes, Fails}
 use Rattle.dy_eval.specs.Names.{Names}
-use Rattle.dy_eval.specs.Past.{Stored, stored_by, state_in, fields_tagged, gone_on, matches, stored_before, matches_first, recalled}
-use Rattle.dy_eval.specs.Patterns.{fits, written_by, matched_if}
+use Rattle.dy_eval.specs.Past.{Stored, stored_by, state_in, fields_tagged, go_on, matches, stored_before, matches_first, recall}
+use Rattle.dy_eval.specs.Patterns.{fits, written_by, match_if}
 use Rattle.dy_sound.proofs.Lists.{Contains-none, Contains-cases}
 use Rattle.dy_sound.proofs.Elements.{if_some}
 use Rattle.dy_sound.proofs.MatchesAt.{find_passes}
@@ -43,7 +43,7 @@ matched_by true wrote more is = (refl, cc)
 matched_by false wrote more is = absurd cc
 
 -- The fields, if they are matched, fit, and their patterns write this.
-matched_is : (names : Names) (pats : List Pattern) (found : Option (List Term)) (more : List Written) → matched_if names pats found ≡ Writes more
+matched_is : (names : Names) (pats : List Pattern) (found : Option (List Term)) (more : List Written) → match_if names pats found ≡ Writes more
     → (fields : List Term) × (found ≡ Some fields) × (fits names pats fields ≡ true) × (written_by pats fields ≡ more)
 matched_is names pats None more is = absurd cc
 matched_is names pats (Some fields) more is = let parts = matched_by (fits names pats fields) (written_by pats fields) more is in (fields, refl, parts.0, parts.1)
@@ -114,7 +114,7 @@ version_state principal session version e stored tag fields of passes tag_is fie
 
 module _ (X : List Entry) (names : Names) (pats : List Pattern) (more : List Written) where
   -- The state that `use` finds is one of this principal with this tag.
-  pub recalled_state : (tag : List ℕ) → recalled X names tag pats ≡ Writes more → (session version : ℕ) × StateFound X names tag pats session version more
+  pub recalled_state : (tag : List ℕ) → recall X names tag pats ≡ Writes more → (session version : ℕ) × StateFound X names tag pats session version more
   recalled_state tag is =
       let found = find (matches_first X names tag pats) X in
       let wrote = matched_is names pats (option_map (λ (s : Stored). s.fields) (option_and_then stored_by found)) more is in
@@ -137,7 +137,7 @@ module _ (X : List Entry) (names : Names) (pats : List Pattern) (more : List Wri
       )
 
 -- The state that a handler goes on from is the newest version of its session, with this tag.
-pub state_gone_on : (X : List Entry) (names : Names) (more : List Written) (on : OnPart) → gone_on X names on ≡ Writes more
+pub state_gone_on : (X : List Entry) (names : Names) (more : List Written) (on : OnPart) → go_on X names on ≡ Writes more
     → StateFound X names on.state.word on.pats names.session (newest X names.principal names.session) more
 state_gone_on X names more on is =
     let at_start = newest X names.principal names.session in

@@ -24,7 +24,7 @@ use Rattle.dy_typing.specs.Names.{Setting, Stands, setting_of, stands_number, st
 use Rattle.dy_typing.specs.Instances.{type_in}
 use Rattle.dy_typing.specs.Knowledge.{Knowledge}
 use Rattle.dy_typing.specs.Expressions.{known_of_expr}
-use Rattle.dy_typing.specs.Demands.{Demand, PartnerStands, StoreKeeps, StoreFits, Fitted, fitted, owed, operations_of_expr, operation_demands, state_demands, other_demands}
+use Rattle.dy_typing.specs.Demands.{Demand, PartnerStands, StoreKeeps, StoreFits, Fitted, fitted_fields, partners_owed, operations_of_expr, operation_demands, state_demands, other_demands}
 use Rattle.dy_typing.specs.Conditions.{AreMet}
 use Rattle.dy_entry.specs.Entries.{Entry}
 use Rattle.dy_entry.specs.LookUps.{newest}
@@ -166,10 +166,10 @@ module _ (file : File) (T X : List Entry) (handler : statements.Handler) (done :
     make number pair = record { number = number; type = type_in (stands_number setting stands) (Some Next) pair.0.kind; value = pair.1 }
 
     abbrev owed_here : List Demand
-    owed_here = map PartnerStands (owed setting stands (Some Next) s.knows)
+    owed_here = map PartnerStands (partners_owed setting stands (Some Next) s.knows)
 
     abbrev stored_fields : List Fitted
-    stored_fields = fitted (stands_number setting stands) (Some Next) s.fields fields
+    stored_fields = fitted_fields (stands_number setting stands) (Some Next) s.fields fields
 
     partners_met : AreMet file.decls k owed_here
     partners_met demand has = state_demands_met demand (Contains-append_left (owed_here ++ map StoreKeeps stored_fields) (map StoreFits stored_fields) demand (Contains-append_left owed_here (map StoreKeeps stored_fields) demand has))

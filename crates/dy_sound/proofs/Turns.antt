@@ -23,9 +23,9 @@ use Rattle.dy_eval.specs.Doings.{Effect}
 use Rattle.dy_eval.specs.Doings as effects
 use Rattle.dy_eval.specs.Lines.{Line, kind_in}
 use Rattle.dy_eval.specs.Names.{Names, write}
-use Rattle.dy_eval.specs.Past.{gone_on}
+use Rattle.dy_eval.specs.Past.{go_on}
 use Rattle.dy_eval.specs.Effects.{effect, effect_of}
-use Rattle.dy_eval.specs.Runs.{Left, Next, Puts, Ends, taken, runs, nonce_due, told}
+use Rattle.dy_eval.specs.Runs.{Left, Next, Puts, Ends, next_by, runs, nonce_due, tell}
 use Rattle.dy_traces.specs.Instances.{entry_for}
 use Rattle.dy_sound.specs.Valid.{IsValid}
 use Rattle.dy_sound.specs.Names.{Agrees}
@@ -139,7 +139,7 @@ module _ (below : LawsBelow) (sound : StatementsAreSound) (file : File) (well_fo
     after_putting : (item : Item) (binds : Option (List ℕ)) → effect X names line ≡ effects.Puts item binds
         → IsGoodItem file.decls T T names.principal names.session item
         × IsGoodSoFar file.decls (T ++ entry_for instance names.principal names.session item ∷ []) X handler
-        (told (length T) binds (left_at names (suc (suc done)) more))
+        (tell (length T) binds (left_at names (suc (suc done)) more))
     after_putting item binds is =
         let act = at.statement.act in
         let due = nonce_due binds (length T) in
@@ -166,7 +166,7 @@ module _ (below : LawsBelow) (sound : StatementsAreSound) (file : File) (well_fo
 
   after_on : (names : Names) (line : Line) (more : List Line) → StandsBefore file.decls handler 0 names (line ∷ more)
       → IsGoodSoFar file.decls T X handler (left_at names 0 (line ∷ more)) → (on : OnPart) → handler.on ≡ Some on
-      → (written : List Written) → gone_on X names on ≡ effects.Writes written
+      → (written : List Written) → go_on X names on ≡ effects.Writes written
       → IsGoodSoFar file.decls T X handler (left_at (write names written) 1 more)
   after_on names line more before so_far on is_on written is =
       let then = write names written in
@@ -186,7 +186,7 @@ module _ (below : LawsBelow) (sound : StatementsAreSound) (file : File) (well_fo
   abbrev pub IsGoodNext : List ℕ → ℕ → Next → Type 0
   IsGoodNext principal session (Puts item binds left) =
       IsGoodItem file.decls T T principal session item
-      × IsGoodSoFar file.decls (T ++ entry_for instance principal session item ∷ []) X handler (told (length T) binds left)
+      × IsGoodSoFar file.decls (T ++ entry_for instance principal session item ∷ []) X handler (tell (length T) binds left)
   IsGoodNext principal session (Ends outcome) = Unit {0}
 
   abbrev GoesOnGood : List Line → Type 0
@@ -196,7 +196,7 @@ module _ (below : LawsBelow) (sound : StatementsAreSound) (file : File) (well_fo
   statement_taken : (done : ℕ) (names : Names) (line : Line) (more : List Line) → StandsBefore file.decls handler (suc done) names (line ∷ more)
       → IsGoodSoFar file.decls T X handler (left_at names (suc done) (line ∷ more)) → IsLineAfter file.decls handler done line more → GoesOnGood more
       → (eff : Effect) → effect X names line ≡ eff
-      → IsGoodNext names.principal names.session (taken eff names (suc done) more (λ then. runs X then (suc done + 1) more))
+      → IsGoodNext names.principal names.session (next_by eff names (suc done) more (λ then. runs X then (suc done + 1) more))
   statement_taken done names line more before so_far at rest effects.Fails is = tt
   statement_taken done names line more before so_far at rest (effects.Puts item binds) is =
       subst (λ (n : ℕ). IsGoodNext names.principal names.session (Puts item binds (left_at names n more))) (sym (add-one (suc done)))
@@ -210,8 +210,8 @@ module _ (below : LawsBelow) (sound : StatementsAreSound) (file : File) (well_fo
 
   on_taken : (names : Names) (line : Line) (more : List Line) → StandsBefore file.decls handler 0 names (line ∷ more)
       → IsGoodSoFar file.decls T X handler (left_at names 0 (line ∷ more)) → (on : OnPart) → handler.on ≡ Some on → GoesOnGood more
-      → (eff : Effect) → gone_on X names on ≡ eff
-      → IsGoodNext names.principal names.session (taken eff names 0 more (λ then. runs X then 1 more))
+      → (eff : Effect) → go_on X names on ≡ eff
+      → IsGoodNext names.principal names.session (next_by eff names 0 more (λ then. runs X then 1 more))
   on_taken names line more before so_far on is_on rest effects.Fails is = tt
   on_taken names line more before so_far on is_on rest (effects.Puts item binds) is = absurd (matched_no_item names on.pats _ item binds is)
   on_taken names line more before so_far on is_on rest (effects.Writes written) is =
@@ -226,7 +226,7 @@ module _ (below : LawsBelow) (sound : StatementsAreSound) (file : File) (well_fo
       let on = before.on_first refl in
       let is = (on_line file well_formed handler stands names line more before on.0 on.1).0 in
       subst (λ (l : Line). IsGoodNext names.principal names.session (runs X names 0 (l ∷ more))) (sym is)
-      (on_taken names line more before so_far on.0 on.1 rest (gone_on X names on.0) refl)
+      (on_taken names line more before so_far on.0 on.1 rest (go_on X names on.0) refl)
   line_taken (suc done) names line more before so_far rest =
       statement_taken done names line more before so_far (line_after file.decls handler done line more before.lines_are) rest (effect X names line) refl
 

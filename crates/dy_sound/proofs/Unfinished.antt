@@ -16,9 +16,9 @@ use Rattle.dy_eval.specs.Doings.{Effect}
 use Rattle.dy_eval.specs.Doings as effects
 use Rattle.dy_eval.specs.Lines.{Line, GoesOn, first_number, kind_in}
 use Rattle.dy_eval.specs.Names.{Names, write}
-use Rattle.dy_eval.specs.Past.{gone_on}
+use Rattle.dy_eval.specs.Past.{go_on}
 use Rattle.dy_eval.specs.Effects.{effect_of}
-use Rattle.dy_eval.specs.Runs.{Left, Next, Puts, Ends, taken, runs, next_of, nonce_due, told}
+use Rattle.dy_eval.specs.Runs.{Left, Next, Puts, Ends, next_by, runs, next_of, nonce_due, tell}
 use Rattle.dy_eval.specs.Starts.{names_written, message_written, opening}
 use Rattle.dy_traces.specs.Following.{message_at, MayReceive}
 use Rattle.dy_sound.specs.Instances.{left_told, with_item_at, left_after}
@@ -39,7 +39,7 @@ module _ (file : File) (well_formed : IsWellFormed file) (handler : statements.H
   module _ (principal : List ℕ) (session : ℕ) where
     -- What is left after the next item stands before a line again.
     abbrev IsLeftNext : Next → Type 0
-    IsLeftNext (Puts item binds left) = (index : ℕ) → IsLeftOf file handler principal session (told index binds left)
+    IsLeftNext (Puts item binds left) = (index : ℕ) → IsLeftOf file handler principal session (tell index binds left)
     IsLeftNext (Ends outcome) = Unit {0}
 
     abbrev GoesOnStanding : List Line → Type 0
@@ -50,7 +50,7 @@ module _ (file : File) (well_formed : IsWellFormed file) (handler : statements.H
         → names.principal ≡ principal → names.session ≡ session
         → (at : IsLineAfter file.decls handler done line more) → GoesOnStanding more
         → (eff : Effect) → effect_of X names (kind_in file.decls at.statement.act) at.statement.act ≡ eff
-        → IsLeftNext (taken eff names (suc done) more (λ now. runs X now (suc done + 1) more))
+        → IsLeftNext (next_by eff names (suc done) more (λ now. runs X now (suc done + 1) more))
     statement_taken done names line more before own_principal own_session at rest effects.Fails is = tt
     statement_taken done names line more before own_principal own_session at rest (effects.Puts item binds) is = λ index.
         let act = at.statement.act in
@@ -69,7 +69,7 @@ module _ (file : File) (well_formed : IsWellFormed file) (handler : statements.H
 
     on_taken : (names : Names) (line : Line) (more : List Line) → StandsBefore file.decls handler 0 names (line ∷ more)
         → names.principal ≡ principal → names.session ≡ session → (on : OnPart) → handler.on ≡ Some on → GoesOnStanding more
-        → (eff : Effect) → gone_on X names on ≡ eff → IsLeftNext (taken eff names 0 more (λ now. runs X now 1 more))
+        → (eff : Effect) → go_on X names on ≡ eff → IsLeftNext (next_by eff names 0 more (λ now. runs X now 1 more))
     on_taken names line more before own_principal own_session on is_on rest effects.Fails is = tt
     on_taken names line more before own_principal own_session on is_on rest (effects.Puts item binds) is = absurd (matched_no_item names on.pats _ item binds is)
     on_taken names line more before own_principal own_session on is_on rest (effects.Writes written) is =
@@ -82,7 +82,7 @@ module _ (file : File) (well_formed : IsWellFormed file) (handler : statements.H
         let on = before.on_first refl in
         let is = (on_line file well_formed handler stands names line more before on.0 on.1).0 in
         subst (λ (l : Line). IsLeftNext (runs X names 0 (l ∷ more))) (sym is)
-        (on_taken names line more before own_principal own_session on.0 on.1 rest (gone_on X names on.0) refl)
+        (on_taken names line more before own_principal own_session on.0 on.1 rest (go_on X names on.0) refl)
     line_taken (suc done) names line more before own_principal own_session rest =
         let at = line_after file.decls handler done line more before.lines_are in
         subst (λ (l : Line). IsLeftNext (runs X names (suc done) (l ∷ more))) (sym at.line_is)

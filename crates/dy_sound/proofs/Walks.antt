@@ -37,16 +37,16 @@ leak_is_not_secure decls secure =
     let open_label = ((secure.secrets 3).shown 1 (sent 2 9 (Nonce 1) refl)).is_open_now in cc
 
 -- Where the principal is corrupted before, the trace is good.
-abbrev corrupted : List Entry
-corrupted = Setup [] ∷ Corrupt 0 (Principal alice) ∷ Fresh 9 (labels.One (Principal alice)) token ∷ Message 9 (Nonce 2) ∷ []
+abbrev corrupted_trace : List Entry
+corrupted_trace = Setup [] ∷ Corrupt 0 (Principal alice) ∷ Fresh 9 (labels.One (Principal alice)) token ∷ Message 9 (Nonce 2) ∷ []
 
-corrupted_message : (decls : List Decl) (index instance : ℕ) (value : Term) → slice_get corrupted index ≡ Some (Message instance value) → MayBeKnown decls corrupted value
+corrupted_message : (decls : List Decl) (index instance : ℕ) (value : Term) → slice_get corrupted_trace index ≡ Some (Message instance value) → MayBeKnown decls corrupted_trace value
 corrupted_message decls zero instance value at = absurd cc
 corrupted_message decls (suc zero) instance value at = absurd cc
 corrupted_message decls (suc (suc zero)) instance value at = absurd cc
 corrupted_message decls (suc (suc (suc zero))) instance value at =
     let same : Nonce 2 ≡ value = cc in
-    subst (MayBeKnown decls corrupted) same (record {
+    subst (MayBeKnown decls corrupted_trace) same (record {
       valid = (Fresh 9 (labels.One (Principal alice)) token, refl, refl);
       shown = record { is_open_now = refl };
     })
@@ -59,14 +59,14 @@ is_as_here (Fresh instance label usage) = true
 is_as_here (Message instance value) = true
 is_as_here e = false
 
-each_as_here : (index : ℕ) (e : Entry) → slice_get corrupted index ≡ Some e → is_as_here e ≡ true
+each_as_here : (index : ℕ) (e : Entry) → slice_get corrupted_trace index ≡ Some e → is_as_here e ≡ true
 each_as_here zero e at = let same : Setup [] ≡ e = cc in subst (λ (x : Entry). is_as_here x ≡ true) same refl
 each_as_here (suc zero) e at = let same : Corrupt 0 (Principal alice) ≡ e = cc in subst (λ (x : Entry). is_as_here x ≡ true) same refl
 each_as_here (suc (suc zero)) e at = let same : Fresh 9 (labels.One (Principal alice)) token ≡ e = cc in subst (λ (x : Entry). is_as_here x ≡ true) same refl
 each_as_here (suc (suc (suc zero))) e at = let same : Message 9 (Nonce 2) ≡ e = cc in subst (λ (x : Entry). is_as_here x ≡ true) same refl
 each_as_here (suc (suc (suc (suc index)))) e at = absurd cc
 
-corrupted_is_good : (decls : List Decl) → IsGood decls corrupted
+corrupted_is_good : (decls : List Decl) → IsGood decls corrupted_trace
 corrupted_is_good decls = record {
   messages = corrupted_message decls;
   injections = λ index step value at. let as_here = each_as_here index _ at in absurd cc;
@@ -92,8 +92,8 @@ its_decl = record {
       } ∷ [];
 }
 
-abbrev declared : List Decl
-declared = files.Event its_decl ∷ []
+abbrev event_decls : List Decl
+event_decls = files.Event its_decl ∷ []
 
 abbrev partner : Partner
 partner = record {
@@ -110,7 +110,7 @@ none_before : (index instance : ℕ) (principal name : List ℕ) (args : List Te
 none_before zero instance principal name args at = cc
 none_before (suc index) instance principal name args at = cc
 
-alone_is_not_secure : IsSecure declared alone → ⊥
+alone_is_not_secure : IsSecure event_decls alone → ⊥
 alone_is_not_secure secure =
     elim ((secure.events 2).follow 1 9 alice (codes "ends") (Name alice ∷ []) refl its_decl refl partner (Contains-first partner [])) [
       | inl happened ↦ let h = happened.has_happened in none_before h.index h.instance h.principal _ _ h.stands

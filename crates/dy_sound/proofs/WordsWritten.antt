@@ -20,8 +20,8 @@ use Rattle.dy_eval.specs.declared.items.Item.TheVariants as items
 use Rattle.dy_eval.specs.Doings.{Effect, Puts, Writes, Fails}
 use Rattle.dy_eval.specs.Names.{Names, bytes_at, bytes_for, principal_in}
 use Rattle.dy_eval.specs.Values.{value, are_small}
-use Rattle.dy_eval.specs.Patterns.{fits_one, fits, written_by_one, written_by, matched_if, opened}
-use Rattle.dy_eval.specs.Past.{gone_on}
+use Rattle.dy_eval.specs.Patterns.{fits_one, fits, written_by_one, written_by, match_if, match_tuple}
+use Rattle.dy_eval.specs.Past.{go_on}
 use Rattle.dy_eval.specs.Effects.{puts, puts_all, writes, holds, effect_of}
 use Rattle.dy_eval.specs.Runs.{nonce_due}
 use Rattle.dy_sound.specs.Fields.{IsName}
@@ -112,7 +112,7 @@ module _ (names : Names) where
   IsWrittenBy binds plain (Writes more) = IsWrittenFor binds plain more
   IsWrittenBy binds plain Fails = Unit {0}
 
-  by_matched : (pats : List Pattern) (fields : Option (List Term)) → IsWrittenBy (flat_map pattern_binds pats) (flat_map plain_binds pats) (matched_if names pats fields)
+  by_matched : (pats : List Pattern) (fields : Option (List Term)) → IsWrittenBy (flat_map pattern_binds pats) (flat_map plain_binds pats) (match_if names pats fields)
   by_matched pats None = tt
   by_matched pats (Some fields) = one (fits names pats fields) refl where
     one : (b : Bool) → fits names pats fields ≡ b
@@ -120,7 +120,7 @@ module _ (names : Names) where
     one true fit = all_by pats fields fit
     one false fit = tt
 
-  by_opened : (tag : Quote) (pats : List Pattern) (message : Option Term) → IsWrittenBy (flat_map pattern_binds pats) (flat_map plain_binds pats) (opened names tag pats message)
+  by_opened : (tag : Quote) (pats : List Pattern) (message : Option Term) → IsWrittenBy (flat_map pattern_binds pats) (flat_map plain_binds pats) (match_tuple names tag pats message)
   by_opened tag pats None = tt
   by_opened tag pats (Some message) = by_matched pats _
 
@@ -158,5 +158,5 @@ module _ (names : Names) where
   by_act X kind (s.Check code key usage tag args) = by_holds _
   by_act X kind (s.Same left right) = by_holds _
 
-  pub by_on : (X : List Entry) (on : OnPart) → IsWrittenBy (flat_map pattern_binds on.pats) (flat_map plain_binds on.pats) (gone_on X names on)
+  pub by_on : (X : List Entry) (on : OnPart) → IsWrittenBy (flat_map pattern_binds on.pats) (flat_map plain_binds on.pats) (go_on X names on)
   by_on X on = by_matched on.pats _

@@ -13,7 +13,7 @@ use Rattle.dy_sound.specs.Words.{case_words}
 use Rattle.dy_sound.specs.Events.{HasHappenedFor}
 use Rattle.dy_sound.specs.Fields.{AllMeet}
 
--- The key has a usage, and the message is the tuple of a declared case of it: its fields meet their types, and each
+-- The key has a usage, and the message is the tuple of a declared case of it. Its fields meet their types, and each
 -- event that the case requires stands in the trace. The case's parameters stand for the usage's owners.
 pub record CaseHolds (decls : List Decl) (T : List Entry) (key message : Term) : Type 0 where
   pub usage : Usage

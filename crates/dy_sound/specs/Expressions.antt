@@ -12,8 +12,8 @@ use Rattle.dy_sound.specs.Valid.{IsValid}
 use Rattle.dy_sound.specs.Knowledge.{KnownHolds}
 
 -- The value of the expression in an instance is valid, and what is known of it holds.
-pub record ExprHolds (decls : List Decl) (T : List Entry) (choice : Choice) (names : Names) (k : Knowledge) (expr : Expr)
-    : Type 0 where
+pub record ExprHolds (decls : List Decl) (T : List Entry) (choice : Choice) (names : Names) (k : Knowledge)
+    (expr : Expr) : Type 0 where
   pub is_valid : IsValid decls T (value names expr)
   pub known_holds : KnownHolds decls T choice (value names expr) (known_of_expr decls k expr)
 

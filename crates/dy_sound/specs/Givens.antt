@@ -40,8 +40,8 @@ AreDistinct (word ∷ words) = (is_among word words ≡ false) × AreDistinct wo
 
 -- What the handler has in the place of a parameter or field, if it is a name or a variable, has this value. Where a
 -- name alone may stand, a handler's name stands, and the value is the name of its principal.
-pub record IsGiven (setting : Setting) (choice : Choice) (names : Names) (slot : Slot) (stand : Option Nm) (value : Term)
-    : Type 0 where
+pub record IsGiven (setting : Setting) (choice : Choice) (names : Names) (slot : Slot) (stand : Option Nm)
+    (value : Term) : Type 0 where
   pub value_is : (given : Nm) → stand ≡ Some given → value ≡ bytes_for names given
   pub name_is : slot.is_name ≡ true
       → (given : Nm) × (stand ≡ Some given) × IsPrincipalOf choice (name_number setting given) (principal_in value)

@@ -34,8 +34,8 @@ pub record IsGoodCert (decls : List Decl) (T : List Entry) (owner usage : List �
   pub belongs : IsKeyOfKind (kind_of_usage decls usage) decls T key (One (Principal owner))
       (usage_with decls usage (owner ∷ []))
 
--- The state is declared. Its fields are valid and meet their types, who has this version may know them, and each event
--- that the state knows has happened, or its label is open.
+-- The state is declared. Its fields are valid and meet their types, and who has this version may know them. Each
+-- event that the state knows has happened, or its label is open.
 pub record IsGoodState (decls : List Decl) (T : List Entry) (principal : List ℕ) (session version : ℕ)
     (tag : List ℕ) (fields : List Term) : Type 0 where
   pub state : StateDecl

@@ -13,7 +13,7 @@ use Rattle.dy_typing.specs.Typing.{Reaches}
 use Rattle.dy_entry.specs.Entries.{Entry, Start}
 use Rattle.dy_entry.specs.LookUps.{newest}
 use Rattle.dy_eval.specs.declared.written.Written.{Written}
-use Rattle.dy_eval.specs.Runs.{Left, Next, Puts, Ends, next_of, told}
+use Rattle.dy_eval.specs.Runs.{Left, Next, Puts, Ends, next_of, tell}
 use Rattle.dy_eval.specs.Starts.{opening}
 use Rattle.dy_traces.specs.Instances.{items_of, end_of}
 use Rattle.dy_traces.specs.Following.{message_at}
@@ -23,7 +23,7 @@ use Rattle.dy_sound.specs.Knowledge.{Holds}
 
 -- what is left once the item that is put next has this index
 abbrev pub left_told : ℕ → Next → Option Left
-left_told index (Puts item binds left) = Some (told index binds left)
+left_told index (Puts item binds left) = Some (tell index binds left)
 left_told index (Ends outcome) = None
 
 abbrev pub with_item_at : List Entry → Option Left → ℕ → Option Left
@@ -57,8 +57,8 @@ abbrev pub IsKnownBefore : List Decl → Handler → ℕ → Knowledge → Type 
 IsKnownBefore decls handler zero k = k ≡ bound_first handler
 IsKnownBefore decls handler (suc done) k = Reaches decls handler (take done handler.body) k
 
--- The values that are written are valid, and all that is known before the next statement holds, whatever the names
--- stand for in whose place nothing is written yet. X is the trace before the instance's Start.
+-- The values that are written are valid, and all that is known before the next statement holds. Nothing is asked
+-- of the names in whose place nothing is written yet. X is the trace before the instance's Start.
 pub record IsGoodSoFar (decls : List Decl) (T X : List Entry) (handler : Handler) (left : Left) : Type 0 where
   pub values_are_valid : (written : Written) → Contains left.names.written written → IsValid decls T written.bytes
   pub knowledge_holds : (k : Knowledge) → IsKnownBefore decls handler left.number k

@@ -27,7 +27,7 @@ ClaimHolds decls T choice value (Pk label usage) =
 ClaimHolds decls T choice value (Vk label usage) =
     IsVkFor decls T value (meaning_of choice label) (usage_chosen decls choice usage)
 
--- What is known of a value holds: where `hi` is open so is its label, where that is open so is `lo`, and each claim
+-- What is known of a value holds. Where `hi` is open so is its label, where that is open so is `lo`, and each claim
 -- holds.
 pub record KnownHolds (decls : List Decl) (T : List Entry) (choice : Choice) (value : Term) (known : Known)
     : Type 0 where
@@ -40,17 +40,17 @@ abbrev pub FactHolds : List Entry → Choice → Names → Fact → Type 0
 FactHolds T choice names fact =
     HasHappened T fact.event (map (value_numbered names) fact.args) ⊎ IsShown T (meaning_of choice fact.guard)
 
--- For `self` and each word it is said which is the first variable that is one with it, and what is known of its value;
--- and facts speak of variables that are bound.
+-- For `self` and each word it is said which is the first variable that is one with it, and what is known of its
+-- value. Facts speak of variables that are bound.
 pub record IsNumbered (k : Knowledge) : Type 0 where
   pub firsts_count : length k.first ≡ suc (length k.words)
   pub values_count : length k.values ≡ suc (length k.words)
   pub firsts_are_bound : (number : ℕ) → number < length k.first → first_of k.first number < length k.first
   pub args_are_bound : (fact : Fact) → Contains k.facts fact → (arg : ℕ) → Contains fact.args arg → arg < length k.first
 
--- What a handler knows holds in a trace, of what is written in an instance of it, for a choice of what its words stand
--- for: its variables are those that are written, those that are one have one value, what is known of each value holds,
--- and so does each fact.
+-- What a handler knows holds in a trace, of what is written in an instance. A choice says what its words
+-- stand for. Its variables are those that are written, and those that are one have one value. What is known of each
+-- value holds, and so does each fact.
 pub record Holds (decls : List Decl) (T : List Entry) (choice : Choice) (names : Names) (k : Knowledge) : Type 0 where
   pub variables : map (λ w. w.word) names.written ≡ k.words
   pub is_numbered : IsNumbered k

@@ -10,6 +10,7 @@ pub mod Knowledge
 pub mod Instances
 pub mod Good
 pub mod Secure
+pub mod Acceptance
 pub mod InScope
 pub mod Matches
 pub mod Givens

@@ -33,8 +33,8 @@ pub record IsPrincipalOf (choice : Choice) (number : Option ℕ) (principal : Op
   pub number_is : number ≡ Some of_name
   pub principal_is : principal ≡ Some (choice.principals of_name)
 
--- A declaration's words stand for the same in a trace as in a handler. `stands` has what the handler has in the place of
--- its parameters and fields, `words` their values in the trace, and `here` is the version that a state has.
+-- A declaration's words stand for the same in a trace as in a handler. `stands` has what the handler has in the place
+-- of its parameters and fields, and `words` their values in the trace. `here` is the version that a state has.
 pub record Matches (setting : Setting) (choice : Choice) (names : Names) (scope : Scope) (stands : Stands)
     (here : Option Atom) (words : Words) : Type 0 where
   pub principals_match : (name : Nm) → IsNamed scope name

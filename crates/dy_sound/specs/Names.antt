@@ -21,7 +21,7 @@ principal_written names word =
     option_and_then (λ w. principal_in w.bytes) (find (λ w. bytes_eq w.word word) names.written)
 
 -- The choice agrees with what is written so far in an instance, where this was the newest version of its session when
--- it began: a handler's name in whose place a principal's name is written stands for that principal. A name in whose
+-- it began. A handler's name in whose place a principal's name is written stands for that principal. A name in whose
 -- place nothing is written yet may stand for any.
 pub record Agrees (handler_words : List (List ℕ)) (newest : ℕ) (names : Names) (choice : Choice) : Type 0 where
   pub self : choice.principals 0 ≡ names.principal

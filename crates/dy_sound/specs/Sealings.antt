@@ -29,7 +29,8 @@ FillFields scope (field ∷ fields) (expr ∷ exprs) = FillsField scope field ex
 FillFields scope _ _ = ⊥
 
 -- The tuple that is sealed for a usage is one of a case of it.
-pub record IsOfCase (decls : List Decl) (scope : Scope) (usage : UseText) (tag : List ℕ) (fields : List Expr) : Type 0 where
+pub record IsOfCase (decls : List Decl) (scope : Scope) (usage : UseText) (tag : List ℕ) (fields : List Expr)
+    : Type 0 where
   pub case : CaseDecl
   pub is_declared : case_named decls usage.usage.word tag ≡ Some case
   pub in_scope : CaseIsInScope decls case

@@ -25,7 +25,7 @@ use Rattle.dy_eval.specs.declared.items.Item.TheVariants as items
 use Rattle.dy_eval.specs.Doings.{Puts, Writes}
 use Rattle.dy_eval.specs.Lines.{kind_in}
 use Rattle.dy_eval.specs.Names.{Names, write}
-use Rattle.dy_eval.specs.Past.{gone_on}
+use Rattle.dy_eval.specs.Past.{go_on}
 use Rattle.dy_eval.specs.Effects.{effect_of}
 use Rattle.dy_eval.specs.Runs.{nonce_due}
 use Rattle.dy_traces.specs.Instances.{entry_for}
@@ -124,7 +124,7 @@ GoesOnSoundly =
     (more : List Written)
     → IsRunning file T X handler (scopes.bound_first handler) names
     → handler.on ≡ Some on
-    → gone_on X names on ≡ Writes more
+    → go_on X names on ≡ Writes more
     → Knows file.decls T X handler choice names (write names more) (bound_first handler)
     → HoldsWritten file.decls T choice names more (start_of file.decls handler)
 

@@ -22,7 +22,7 @@ IsEncrypted decls T to message = IsEncryptedTo decls T to message ⊎ IsShown T 
 abbrev pub IsUnder : List Decl → List Entry → Term → Term → Type 0
 IsUnder decls T key message = CaseHolds decls T key message ⊎ IsShown T (label_of T key)
 
--- Its nonces are made in the trace, and what is encrypted, signed or tagged in it is so by the rules, or by someone who
+-- Its nonces are made in the trace. What is encrypted, signed or tagged in it is so by the rules, or by someone who
 -- may know what it takes. Who has a key may know what is encrypted under it.
 abbrev pub IsValid : List Decl → List Entry → Term → Type 0
 IsValid decls T (Lit text) = Unit {0}

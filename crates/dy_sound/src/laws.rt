@@ -62,8 +62,8 @@ pub fn the_opening_trace_is_good()
     laws_below();
 }
 
-/// A good trace stays good with what the attacker does: a corruption, a nonce, a step that is left
-/// out, and a message of bytes that may follow. It also stays good where an instance ends.
+/// A good trace stays good with what the attacker does. That is a corruption, a nonce, a step that
+/// is left out, or a message of bytes that may follow. It also stays good where an instance ends.
 pub fn the_attacker_keeps_a_trace_good()
     ensures corrupt { (decls : List Decl) (T : List Entry) (step : ℕ) (corruption : Place) →
         IsGood decls T → IsGood decls (T ++ Corrupt step corruption ∷ []) }

@@ -18,8 +18,8 @@ ghost use Rattle.dy_sound.specs.Expressions.{ExprHolds, ExprsHold};
 
 use crate::laws_below::laws_below;
 
-/// The value of an expression in an instance is valid, and what the typing rules know of it holds,
-/// where the demands of its operations are met by what the handler knows. So it is with some
+/// The value of an expression in an instance is valid, and what the typing rules know of it holds.
+/// This asks that what the handler knows meets the demands of its operations. So it is with some
 /// expressions together. What is written in the instance is valid, and each tuple that is sealed is
 /// one of a declared case.
 pub fn values_of_expressions_are_sound()
@@ -30,7 +30,8 @@ pub fn values_of_expressions_are_sound()
         (expr : Expr) → AreOfCases setting.decls (scope_in setting.names names) (operations_of_expr expr) →
         AreMet setting.decls k (operation_demands setting (operations_of_expr expr)) →
         ExprHolds setting.decls T choice names k expr }
-    ensures several { (T : List Entry) (setting : Setting) (choice : Choice) (newest : ℕ) (names : Names) (k : Knowledge) →
+    ensures several { (T : List Entry) (setting : Setting) (choice : Choice) (newest : ℕ) (names : Names)
+        (k : Knowledge) →
         HandlerMatches setting.names newest names choice → Holds setting.decls T choice names k →
         TablesFit setting.decls →
         ((written : Written) → Contains names.written written → IsValid setting.decls T written.bytes) →

@@ -8,7 +8,7 @@ use crate::laws_below::laws_below;
 use dy_term::sameness_is_equality;
 
 /// After `split`, `open`, `popen`, `verify` and `check` what is known holds, and what they write is
-/// valid: the content is shown, or it was sealed by the rules of its case.
+/// valid. The content is shown, or it was sealed by the rules of its case.
 pub fn openings_are_sound()
     ensures split { (value : Id) (tag : Quote) (pats : List Pattern) → WritesSoundly (Split value tag pats) }
     ensures open_ { (value key : Id) (usage : UseText) (tag : Quote) (pats : List Pattern) (ad : Expr) →

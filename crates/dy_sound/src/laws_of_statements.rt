@@ -9,7 +9,7 @@ use crate::laws_below::laws_below;
 use dy_term::sameness_is_equality;
 
 /// In a good trace of a well-formed file, a statement of a handler whose demands are met keeps what
-/// is known: what it writes is valid, what it puts is good, and what is known after it holds. So
+/// is known. What it writes is valid, what it puts is good, and what is known after it holds. So
 /// does the state that a handler goes on from.
 pub fn statements_keep_what_is_known()
     ensures new { (name : Id) (usage : UseText) (label : LabelText) → PutsSoundly (New name usage label) }

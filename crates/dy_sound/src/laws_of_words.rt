@@ -22,8 +22,8 @@ ghost use Rattle.dy_sound.specs.InScope.{LabelIsInScope, UseIsInScope, AtomIsInS
 ghost use Rattle.dy_sound.specs.Matches.{scope_in, HandlerMatches, Matches};
 ghost use Rattle.dy_sound.specs.Givens.{usage_slots, field_slots, event_slots, case_slots, words_in, AreDistinct, AreGiven};
 
-/// Where a declaration's words stand for the same in a trace as in a handler, its labels, its usages
-/// and the arguments of the events that it names mean the same.
+/// Say that a declaration's words stand for the same in a trace as in a handler. Then its labels,
+/// its usages and the arguments of the events that it names mean the same.
 pub fn declarations_mean_the_same()
     ensures labels { (setting : Setting) (choice : Choice) (names : Names) (scope : Scope) (stands : Stands)
         (here : Option Atom) (words : Words) → Matches setting choice names scope stands here words →
@@ -41,7 +41,7 @@ pub fn declarations_mean_the_same()
 {}
 
 /// The words of a case, a state and an event's declaration stand for the same in a trace as in a
-/// handler, where what the handler gives for parameters and fields has their values.
+/// handler. What the handler gives for parameters and fields has their values.
 pub fn declared_words_stand_for_the_same()
     ensures cases { (setting : Setting) (choice : Choice) (names : Names) (case : CaseDecl) (args : List Nm)
         (owners : List (List ℕ)) (stands : List (Option Nm)) (fields : List Term) →

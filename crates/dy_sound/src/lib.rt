@@ -1,6 +1,7 @@
-//! Why typed files are secure: what holds in their traces.
+//! Accepts the files that are typed, and says why they are secure: what holds in their traces.
 #![tactic(auto)]
 
+mod acceptance;
 mod laws;
 mod laws_below;
 mod laws_of_expressions;
@@ -9,6 +10,7 @@ mod laws_of_statements;
 mod laws_of_words;
 mod typed_files;
 
+pub use acceptance::{Accepted, Refusal, accept};
 pub use laws::{
     a_start_keeps_a_trace_good, derived_values_may_be_known, good_traces_are_secure,
     the_attacker_keeps_a_trace_good, the_opening_trace_is_good, weaker_knowledge_holds,

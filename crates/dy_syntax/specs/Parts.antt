@@ -13,8 +13,8 @@ use Rattle.dy_syntax.specs.Recipes as r
 use Rattle.dy_syntax.specs.Recipes.{RecipeText, Recipes}
 use Rattle.dy_syntax.specs.Plans.{Step, OnStep}
 
--- what a step must be that another one names: a forge step, a start step, one that sends a message, one that opens
--- a session, one that opens a session of this principal
+-- what a step must be that another one names: a forge step, a start step, or one that sends a message. It may also
+-- be one that opens a session, or one that opens a session of this principal
 pub data Wanted : Type 0 where
   Forging : Wanted
   Starting : Wanted

@@ -5,3 +5,4 @@ pub mod OneDue
 pub mod Within
 pub mod ShortFiles
 pub mod ReadBack
+mod JudgedFiles

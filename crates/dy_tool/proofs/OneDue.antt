@@ -12,7 +12,8 @@ use Rattle.dy_tool.specs.declared.statuses.Status.{Status}
 use Rattle.dy_tool.specs.declared.statuses.Status.TheVariants.{Done, NotAccepted, Words, Input, ReadFault, WriteFault, Memory, TooLong}
 use Rattle.dy_tool.specs.Texts.{accepted_text, refused_text, bad_words}
 use Rattle.dy_tool.specs.Protocols.{IsProtocol}
-use Rattle.dy_tool.specs.Due.{check_words, show_words, AreRefused, IsNamed, IsTyped, IsRefusedFile, IsRefusedInput, IsDue, IsDueBy, IsDueByCheck, IsDueByShow}
+use Rattle.dy_sound.specs.Acceptance.{IsTyped, IsRefusedFile}
+use Rattle.dy_tool.specs.Due.{check_words, show_words, AreRefused, IsNamed, IsRefusedInput, IsDue, IsDueBy, IsDueByCheck, IsDueByShow}
 use Rattle.dy_tool.proofs.OneInput.{ReadingLaws, no_fault, one_fault_text}
 
 -- the laws of the crates below

@@ -8,7 +8,7 @@ use Rattle.dy_tool.specs.declared.statuses.Status.TheVariants.{Done, NotAccepted
 use Rattle.dy_tool.specs.Texts.{bad_words, too_long}
 use Rattle.dy_tool.specs.declared.commands.Command.{Command}
 use Rattle.dy_tool.specs.declared.commands.Command.TheVariants.{Check, Show}
-use Rattle.dy_tool.specs.Due.{check_words, show_words, AreRefused, IsNamed, IsDue, IsDueBy, IsDueByCheck}
+use Rattle.dy_tool.specs.Due.{check_words, show_words, AreRefused, IsNamed, IsDue, IsDueBy}
 use Rattle.dy_tool.specs.Answers.{Owes, Wrote, Leaves, Says}
 
 -- some statuses are due by no command
@@ -79,7 +79,7 @@ pub told_holds : (P : List ℕ → Type 0) (left : Option (List ℕ)) (bytes : L
 told_holds P None bytes told holds = tt
 told_holds P (Some all) bytes told holds = subst P told holds
 
--- with the words of `check`, what a command is to answer is what `check` is
-pub due_by_check : (command : Command) (words : List (List ℕ)) (bytes : List ℕ) (status : Status) (text : List ℕ) → IsNamed words (Some command) → words ≡ check_words → IsDueBy command bytes status text → IsDueByCheck bytes status text
-due_by_check Check words bytes status text named is due = due
-due_by_check Show words bytes status text named is due = absurd (let both : check_words ≡ show_words = sym is ∙ named in cc)
+-- The words of `check` name no other command.
+pub is_check : (command : Command) (words : List (List ℕ)) → IsNamed words (Some command) → words ≡ check_words → command ≡ Check
+is_check Check words named is = refl
+is_check Show words named is = absurd (let both : check_words ≡ show_words = sym is ∙ named in cc)

@@ -26,8 +26,8 @@ pub record BrokeOff (words : List (List ℕ)) (left held held_after : Option (Li
   pub owed : Owes words left status text
   pub written : AppendsPrefix held held_after text
 
--- What is held afterwards: nothing more where reading failed or memory ran out, a prefix of the text that
--- is due where writing failed, and else that text.
+-- What is held afterwards. It is nothing more where reading failed or memory ran out. It is a prefix of the
+-- text that is due where writing failed, and else that text.
 abbrev pub Leaves : (words : List (List ℕ)) (left held held_after : Option (List ℕ)) → Status → Type 0
 Leaves words left held held_after ReadFault = Keeps held held_after
 Leaves words left held held_after Memory = Keeps held held_after

@@ -3,14 +3,13 @@ use Rattle.std.specs.Prelude.{◌≡◌, ◌≢◌, ℕ, ◌<◌, ◌≤◌, Lis
 use Rattle.std.specs.declared.alloc.Global.{Global}
 use Rattle.dy_lex.specs.declared.limits.TheConstants.{MAX_SOURCE_BYTES}
 use Rattle.dy_syntax.specs.Files.{File}
-use Rattle.dy_syntax.specs.Rules.{IsWellFormed}
 use Rattle.dy_parse.specs.Reading.{Reads}
 use Rattle.dy_show.specs.Canonical.{canon}
 use Rattle.dy_cases.specs.DeclaredParts.{handlers_in}
-use Rattle.dy_typing.specs.Typing.{AreTyped, IsRefusedAt}
 use Rattle.dy_entry.specs.Entries.{Entry}
 use Rattle.dy_traces.specs.Interleavings.{Interleaves}
 use Rattle.dy_sound.specs.Secure.{IsSecure}
+use Rattle.dy_sound.specs.Acceptance.{IsTyped, IsRefusedFile}
 use Rattle.dy_tool.specs.declared.commands.Command.{Command}
 use Rattle.dy_tool.specs.declared.commands.Command.TheVariants.{Check, Show}
 use Rattle.dy_tool.specs.declared.statuses.Status.{Status}
@@ -19,16 +18,8 @@ use Rattle.dy_tool.specs.Texts.{accepted_text, refused_text, bad_words, too_long
 use Rattle.dy_tool.specs.Protocols.{IsProtocol, HasFault, fault_text}
 use Rattle.dy_tool.specs.declared.protocols.InputFault.{InputFault}
 
--- A file is typed when it is well formed and each of its handlers has a derivation.
-abbrev pub IsTyped : File → Type 0
-IsTyped file = IsWellFormed file × AreTyped file.decls (handlers_in file.decls)
-
--- A file is refused at a place when it is well formed and its typing fails there.
-abbrev pub IsRefusedFile : File → (line condition field : ℕ) → Type 0
-IsRefusedFile file line condition field = IsWellFormed file × IsRefusedAt file.decls line condition field
-
--- Every interleaving of the bytes is secure: at each prefix, a nonce that the attacker derives has an open label, and
--- each event follows its partners, or the exempting label was open before it.
+-- Every interleaving of the bytes is secure at each prefix. A nonce that the attacker derives has an open label. Each
+-- event follows its partners, or the exempting label was open before it.
 abbrev pub EachInterleavingIsSecure : List ℕ → Type 0
 EachInterleavingIsSecure bytes = (file : File) (T : List Entry) → Interleaves bytes file T → IsSecure file.decls T
 

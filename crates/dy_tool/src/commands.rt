@@ -7,7 +7,6 @@ ghost use Rattle.dy_tool.specs.Due.{words_of, check_words, AreRefused, IsNamed, 
 
 use crate::answers::Answer;
 use crate::judging::judge;
-use crate::laws::accepted_files_are_secure;
 use crate::showing::print_canonical;
 use crate::statuses::Status;
 use dy_io::{ReadError, Sink, Source, WriteError, read_all, write_all};
@@ -66,10 +65,7 @@ pub fn quiet<S: Source, K: Sink>(
     };
     match read_all(alloc, source, MAX_SOURCE_BYTES) {
         Ok(bytes) => match answer(alloc, command, &bytes) {
-            Ok(answer) => {
-                accepted_files_are_secure();
-                say(sink, answer.status, answer.text.as_slice())
-            }
+            Ok(answer) => say(sink, answer.status, answer.text.as_slice()),
             Err(_) => Status::Memory,
         },
         Err(ReadError::TooLong) => say(sink, Status::TooLong, b"too long\n"),
@@ -92,7 +88,9 @@ fn command_of(words: &[String]) -> Option<Command>
 /// The answer of a command for an input of at most `MAX_SOURCE_BYTES` bytes.
 fn answer(alloc: Global, command: Command, bytes: &[u8]) -> Result<Answer, Memory>
     requires { length bytes.now ≤ MAX_SOURCE_BYTES }
-    ensures { IfOk result (λ a. IsDueBy command bytes.now a.status a.text.items) }
+    ensures due { IfOk result (λ a. IsDueBy command bytes.now a.status a.text.items) }
+    ensures secure { IfOk result (λ a.
+        command ≡ Command.Check → a.status ≡ Status.Done → EachInterleavingIsSecure bytes.now) }
 {
     match command {
         Command::Check => judge(alloc, bytes),

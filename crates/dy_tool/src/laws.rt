@@ -31,8 +31,8 @@ pub fn accepted_files_are_secure()
     typed_is_secure();
 }
 
-/// Where a source of any length is a file within the limits, and the file's canonical text is not too
-/// long for a source, that text is the same file but for line numbers, within all limits.
+/// A source of any length is a file within the limits, and the file's canonical text is not too long
+/// for a source. Then that text is the same file but for line numbers, within all limits.
 pub fn shown_reads_back()
     ensures { (source : List ℕ) (file : File) →
         IsTextOfFile source file → length (canon file) ≤ MAX_SOURCE_BYTES → ReadsBack file }

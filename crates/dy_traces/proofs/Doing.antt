@@ -16,9 +16,9 @@ use Rattle.dy_eval.specs.Doings as effects
 use Rattle.dy_eval.specs.Lines.{Line, GoesOn, Does}
 use Rattle.dy_eval.specs.Names.{Names, write, bytes_at, bytes_for}
 use Rattle.dy_eval.specs.Values.{value, are_small}
-use Rattle.dy_eval.specs.Patterns.{fits, written_by, matched_if, opened}
+use Rattle.dy_eval.specs.Patterns.{fits, written_by, match_if, match_tuple}
 use Rattle.dy_eval.specs.Effects.{puts, puts_all, writes, effect, effect_of}
-use Rattle.dy_eval.specs.Runs.{Left, Next, Puts, Ends, taken, runs, next_of, told, step, steps, does}
+use Rattle.dy_eval.specs.Runs.{Left, Next, Puts, Ends, next_by, runs, next_of, tell, step, steps, does}
 use Rattle.dy_traces.proofs.Stores.{is_store_line, LinesStoreLast}
 
 module _ (X : List Entry) where
@@ -37,11 +37,11 @@ module _ (X : List Entry) where
     fine_if true written = tt
     fine_if false written = tt
 
-    fine_matched : (patterns : List Pattern) (fields : Option (List Term)) → IsFineEffect names stores (matched_if names patterns fields)
+    fine_matched : (patterns : List Pattern) (fields : Option (List Term)) → IsFineEffect names stores (match_if names patterns fields)
     fine_matched patterns None = tt
     fine_matched patterns (Some fields) = fine_if (fits names patterns fields) (written_by patterns fields)
 
-    fine_opened : (tag : Quote) (patterns : List Pattern) (message : Option Term) → IsFineEffect names stores (opened names tag patterns message)
+    fine_opened : (tag : Quote) (patterns : List Pattern) (message : Option Term) → IsFineEffect names stores (match_tuple names tag patterns message)
     fine_opened tag patterns None = tt
     fine_opened tag patterns (Some message) = fine_matched patterns _
 
@@ -97,7 +97,7 @@ module _ (X : List Entry) where
   fine_taken : (names : Names) (number : ℕ) (more : List Line) (stores : Bool) → (stores ≡ true → more ≡ []) → LinesStoreLast more
       → (done : Effect) → IsFineEffect names stores done → (goes_on : Names → Next)
       → ((written : List Written) → IsFineNext names.principal names.session (goes_on (write names written)))
-      → IsFineNext names.principal names.session (taken done names number more goes_on)
+      → IsFineNext names.principal names.session (next_by done names number more goes_on)
   fine_taken names number more stores last later (effects.Puts item binds) fine goes_on rest =
       (last_item names.principal names.session stores more item fine last, refl, refl, later)
   fine_taken names number more stores last later (effects.Writes written) fine goes_on rest = rest written
@@ -112,9 +112,9 @@ module _ (X : List Entry) where
   fine_step : (principal : List ℕ) (session : ℕ) (next : Next) (index : ℕ) → IsFineNext principal session next → IsFineNext principal session (step X next index)
   fine_step principal session (Ends outcome) index fine = tt
   fine_step principal session (Puts item binds left) index fine =
-      subst (λ (p : List ℕ). IsFineNext p session (next_of X (told index binds left))) fine.1
-      (subst (λ (n : ℕ). IsFineNext left.names.principal n (next_of X (told index binds left))) fine.2
-      (fine_runs (told index binds left).names left.number left.lines fine.3))
+      subst (λ (p : List ℕ). IsFineNext p session (next_of X (tell index binds left))) fine.1
+      (subst (λ (n : ℕ). IsFineNext left.names.principal n (next_of X (tell index binds left))) fine.2
+      (fine_runs (tell index binds left).names left.number left.lines fine.3))
 
   pub fine_steps : (principal : List ℕ) (session : ℕ) (next : Next) (indices : List ℕ) → IsFineNext principal session next → IsFineNext principal session (steps X next indices)
   fine_steps principal session next [] fine = fine
@@ -137,7 +137,7 @@ module _ (X : List Entry) where
   IsLastPut (Ends outcome) = ⊥
 
   step_last : (next : Next) (index : ℕ) → IsLastPut next → step X next index ≡ Ends Done
-  step_last (Puts item binds left) index last = ap (λ lines. runs X (told index binds left).names left.number lines) last
+  step_last (Puts item binds left) index last = ap (λ lines. runs X (tell index binds left).names left.number lines) last
   step_last (Ends outcome) index last = absurd last
 
   -- after a last item an instance is done

@@ -33,8 +33,8 @@ quote text = record { text = text; line = 0 }
 abbrev does : Act → Statement
 does act = record { line = 0; act = act }
 
-abbrev named : List ℕ → Nm
-named word = names.Named (id word)
+abbrev nm_named : List ℕ → Nm
+nm_named word = names.Named (id word)
 
 -- usage nonce Rand();
 abbrev rand : UsageDecl
@@ -49,9 +49,9 @@ begin = record {
   args = id (codes "b") ∷ [];
   recv = None;
   body =
-      does (s.New (id (codes "n")) (record { usage = id (codes "Rand"); args = [] }) (labels.One (named (codes "b"))))
-      ∷ does (s.Send (e.Tuple (quote (codes "hi")) (e.row_of (e.Nm (names.Me 0) ∷ e.Nm (named (codes "n")) ∷ []))))
-      ∷ does (s.Store (id (codes "Stage")) (e.Nm (named (codes "n")) ∷ []))
+      does (s.New (id (codes "n")) (record { usage = id (codes "Rand"); args = [] }) (labels.One (nm_named (codes "b"))))
+      ∷ does (s.Send (e.Tuple (quote (codes "hi")) (e.row_of (e.Nm (names.Me 0) ∷ e.Nm (nm_named (codes "n")) ∷ []))))
+      ∷ does (s.Store (id (codes "Stage")) (e.Nm (nm_named (codes "n")) ∷ []))
       ∷ [];
 }
 
@@ -64,8 +64,8 @@ reply = record {
   args = [];
   recv = Some (id (codes "m"));
   body =
-      does (s.Send (e.Nm (named (codes "x"))))
-      ∷ does (s.Split (id (codes "m")) (quote (codes "hi")) (s.Named 0 (id (codes "a")) ∷ s.Equal 0 (named (codes "x")) ∷ []))
+      does (s.Send (e.Nm (nm_named (codes "x"))))
+      ∷ does (s.Split (id (codes "m")) (quote (codes "hi")) (s.Named 0 (id (codes "a")) ∷ s.Equal 0 (nm_named (codes "x")) ∷ []))
       ∷ [];
 }
 
@@ -103,26 +103,26 @@ opening =
     ∷ []
 
 -- the attacker takes the state, and injects what is stored
-abbrev attacked : List Entry
-attacked = opening ++ Corrupt 3 (Version alice 1 1) ∷ Inject 4 (Nonce 2) ∷ []
+abbrev attacked_trace : List Entry
+attacked_trace = opening ++ Corrupt 3 (Version alice 1 1) ∷ Inject 4 (Nonce 2) ∷ []
 
 -- No instance of alice's session runs.
-idle : (instance : ℕ) → IsRunningIn (Setup [] ∷ attacked) 1 instance → ⊥
-idle zero = no_start_at (Setup [] ∷ attacked) 1 0 _ refl refl
-idle (suc zero) = ended_at (Setup [] ∷ attacked) 1 1 6 refl
-idle (suc (suc zero)) = no_start_at (Setup [] ∷ attacked) 1 2 _ refl refl
-idle (suc (suc (suc zero))) = no_start_at (Setup [] ∷ attacked) 1 3 _ refl refl
-idle (suc (suc (suc (suc zero)))) = no_start_at (Setup [] ∷ attacked) 1 4 _ refl refl
-idle (suc (suc (suc (suc (suc zero))))) = no_start_at (Setup [] ∷ attacked) 1 5 _ refl refl
-idle (suc (suc (suc (suc (suc (suc zero)))))) = no_start_at (Setup [] ∷ attacked) 1 6 _ refl refl
-idle (suc (suc (suc (suc (suc (suc (suc zero))))))) = no_start_at (Setup [] ∷ attacked) 1 7 _ refl refl
-idle (suc (suc (suc (suc (suc (suc (suc (suc zero)))))))) = no_start_at (Setup [] ∷ attacked) 1 8 _ refl refl
-idle (suc (suc (suc (suc (suc (suc (suc (suc (suc i))))))))) = none_at (Setup [] ∷ attacked) 1 _ refl
+idle : (instance : ℕ) → IsRunningIn (Setup [] ∷ attacked_trace) 1 instance → ⊥
+idle zero = no_start_at (Setup [] ∷ attacked_trace) 1 0 _ refl refl
+idle (suc zero) = ended_at (Setup [] ∷ attacked_trace) 1 1 6 refl
+idle (suc (suc zero)) = no_start_at (Setup [] ∷ attacked_trace) 1 2 _ refl refl
+idle (suc (suc (suc zero))) = no_start_at (Setup [] ∷ attacked_trace) 1 3 _ refl refl
+idle (suc (suc (suc (suc zero)))) = no_start_at (Setup [] ∷ attacked_trace) 1 4 _ refl refl
+idle (suc (suc (suc (suc (suc zero))))) = no_start_at (Setup [] ∷ attacked_trace) 1 5 _ refl refl
+idle (suc (suc (suc (suc (suc (suc zero)))))) = no_start_at (Setup [] ∷ attacked_trace) 1 6 _ refl refl
+idle (suc (suc (suc (suc (suc (suc (suc zero))))))) = no_start_at (Setup [] ∷ attacked_trace) 1 7 _ refl refl
+idle (suc (suc (suc (suc (suc (suc (suc (suc zero)))))))) = no_start_at (Setup [] ∷ attacked_trace) 1 8 _ refl refl
+idle (suc (suc (suc (suc (suc (suc (suc (suc (suc i))))))))) = none_at (Setup [] ∷ attacked_trace) 1 _ refl
 
 -- alice goes on in her session with the message of the attacker, which is no greeting
 abbrev whole : List Entry
 whole =
-    attacked
+    attacked_trace
     ++ replies 5 1 8
     ∷ nonce_for 3 alice
     ∷ Message 9 (Nonce 2)

@@ -4,5 +4,10 @@ pub mod Stores
 pub mod Doing
 pub mod Versions
 pub mod Recipes
+pub mod SmallValues
 pub mod Walks
 pub mod Examples
+pub mod NeedhamSchroeder
+pub mod LowesSchedule
+pub mod LowesAttack
+pub mod LowesRepair

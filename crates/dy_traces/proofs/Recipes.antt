@@ -62,17 +62,6 @@ module _ (same_is : (a b : Term) → is_same a b ≡ true → a ≡ b) (T : List
   of_forge index (Some (entries.Forge step)) at = by.forged index step at
   of_forge index (Some e) at = tt
 
-  of_covered : (index instance : ℕ) (p : List ℕ) (s v : ℕ) (tag : List ℕ) (fields : List Term) (field : ℕ) → slice_get T index ≡ Some (entries.State instance p s v tag fields)
-      → (b : Bool) → is_covered T p s v ≡ b → (o : Option Term) → slice_get fields field ≡ o → HasDerived (if b then o else None)
-  of_covered index instance p s v tag fields field at true covered None found = tt
-  of_covered index instance p s v tag fields field at true covered (Some value) found = by.corrupted index instance p s v tag fields value at covered (contains_at fields field value found)
-  of_covered index instance p s v tag fields field at false covered o found = tt
-
-  of_field : (index field : ℕ) (o : Option Entry) → slice_get T index ≡ o → HasDerived (option_and_then (field_given T field) o)
-  of_field index field None at = tt
-  of_field index field (Some (entries.State instance p s v tag fields)) at = of_covered index instance p s v tag fields field at (is_covered T p s v) refl (slice_get fields field) refl
-  of_field index field (Some e) at = tt
-
   at_number : (values : List Term) → AllDerived values → (number : ℕ) → HasDerived (value_at values number)
   at_number values all number = one (number == 0) where
     found : (o : Option Term) → slice_get values (number - 1) ≡ o → HasDerived o
@@ -82,6 +71,17 @@ module _ (same_is : (a b : Term) → is_same a b ≡ true → a ≡ b) (T : List
     one : (b : Bool) → HasDerived (if b then None else slice_get values (number - 1))
     one true = tt
     one false = found (slice_get values (number - 1)) refl
+
+  if_covered : (b : Bool) (o : Option Term) → (b ≡ true → HasDerived o) → HasDerived (if b then o else None)
+  if_covered true o had = had refl
+  if_covered false o had = tt
+
+  of_field : (index field : ℕ) (o : Option Entry) → slice_get T index ≡ o → HasDerived (option_and_then (field_given T field) o)
+  of_field index field None at = tt
+  of_field index field (Some (entries.State instance p s v tag fields)) at =
+      if_covered (is_covered T p s v) (value_at fields field) (λ covered.
+      at_number fields (λ k value found. by.corrupted index instance p s v tag fields value at covered (contains_at fields k value found)) field)
+  of_field index field (Some e) at = tt
 
   one_of : (operation : Term → Term) → ((a : Term) → Derives T a → Derives T (operation a)) → (o : Option Term) → HasDerived o → HasDerived (option_map operation o)
   one_of operation built None had = tt

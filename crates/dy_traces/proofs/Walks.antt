@@ -1,6 +1,8 @@
 -- Traces that are walked entry by entry.
-use Rattle.std.proofs.Common.{◌≡◌, ℕ, zero, suc, ◌<◌, true, false, List, [], ◌∷◌, ◌++◌, length, take, Some, None, refl, ap, sym, ◌∙◌, subst, arith}
+use Rattle.std.proofs.Common.{◌≡◌, ℕ, zero, suc, ◌+◌, ◌<◌, Bool, true, false, not, ◌&&◌, ◌||◌, List, [], ◌∷◌, ◌++◌, length, take, Option, Some, None, refl, ap, sym, ◌∙◌, subst, arith}
 use Rattle.std.proofs.lemmas.List.{append_assoc, append-nil}
+use Rattle.std.proofs.lemmas.Bool.{and_parts}
+use Rattle.std.specs.Option.{is_some}
 use Rattle.std.specs.List.{slice_get}
 use Rattle.dy_syntax.specs.Files.{File, Decl}
 use Rattle.dy_syntax.specs.Rules.{IsWellFormed}
@@ -52,3 +54,45 @@ none_at T session i past runs = let stands = runs.stands in cc
 
 pub ended_at : (T : List Entry) (session i at : ℕ) → end_of T i ≡ Some at → IsRunningIn T session i → ⊥
 ended_at T session i at ends runs = let goes_on = runs.goes_on in cc
+
+-- A walk, and a walk that goes on after it.
+pub walks_on : (decls : List Decl) (before first second : List Entry) → Walks decls before first
+    → Walks decls (before ++ first) second → Walks decls before (first ++ second)
+walks_on decls before [] second walks more = subst (λ (T : List Entry). Walks decls T second) (append-nil before) more
+walks_on decls before (e ∷ first) second walks more = (
+  walks.0,
+  walks_on decls (before ++ e ∷ []) first second walks.1
+      (subst (λ (T : List Entry). Walks decls T second) (sym (append_assoc before (e ∷ []) first)) more),
+)
+
+-- Of the entries from an index on, none is a Start in the session whose instance has no End.
+abbrev pub none_runs_from : List Entry → ℕ → ℕ → List Entry → Bool
+none_runs_from T session index [] = true
+none_runs_from T session index (e ∷ rest) =
+    (not (starts_in session e) || is_some (end_of T index)) && none_runs_from T session (suc index) rest
+
+ended_or_other : (starts : Bool) (ended : Option ℕ) → (not starts || is_some ended) ≡ true → starts ≡ true → ended ≡ None → ⊥
+ended_or_other true None is starts none = cc
+ended_or_other true (Some at) is starts none = cc
+ended_or_other false ended is starts none = cc
+
+none_runs_at : (T : List Entry) (session index : ℕ) (rest : List Entry) → none_runs_from T session index rest ≡ true
+    → (k : ℕ) (e : Entry) → slice_get rest k ≡ Some e → starts_in session e ≡ true → end_of T (k + index) ≡ None → ⊥
+none_runs_at T session index [] none k e at starts goes_on = absurd cc
+none_runs_at T session index (f ∷ rest) none zero e at starts goes_on =
+    let parts = and_parts (not (starts_in session f) || is_some (end_of T index)) (none_runs_from T session (suc index) rest) none in
+    let same : e ≡ f = cc in
+    let here : 0 + index ≡ index = omega arith in
+    ended_or_other (starts_in session f) (end_of T index) parts.0
+    (subst (λ (g : Entry). starts_in session g ≡ true) same starts) (subst (λ (n : ℕ). end_of T n ≡ None) here goes_on)
+none_runs_at T session index (f ∷ rest) none (suc k) e at starts goes_on =
+    let parts = and_parts (not (starts_in session f) || is_some (end_of T index)) (none_runs_from T session (suc index) rest) none in
+    let later : suc k + index ≡ k + suc index = omega arith in
+    none_runs_at T session (suc index) rest parts.1 k e at starts (subst (λ (n : ℕ). end_of T n ≡ None) later goes_on)
+
+-- No instance of the session runs, by computation.
+pub none_runs : (T : List Entry) (session : ℕ) → none_runs_from T session 0 T ≡ true → (instance : ℕ) → IsRunningIn T session instance → ⊥
+none_runs T session none instance runs =
+    let here : instance ≡ instance + 0 = omega arith in
+    none_runs_at T session 0 T none instance runs.start runs.stands runs.is_start
+    (subst (λ (n : ℕ). end_of T n ≡ None) here runs.goes_on)

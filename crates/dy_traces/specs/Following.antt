@@ -32,7 +32,7 @@ MayBeIn T None principal session = session ≡ length T
 MayBeIn T (Some on) principal session =
     IsSessionOf T principal session × ((instance : ℕ) → IsRunningIn T session instance → ⊥)
 
--- A Start may follow: the step is not used yet, the handler is declared, it has as many arguments, and it may receive
+-- A Start may follow. The step is not used yet, the handler is declared, and it has as many arguments. It may receive
 -- this message and be in this session.
 pub record MayStart (decls : List Decl) (T : List Entry) (step : ℕ) (handler principal : List ℕ) (session : ℕ)
     (args : List (List ℕ)) (message : Option ℕ) : Type 0 where

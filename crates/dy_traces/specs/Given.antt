@@ -6,13 +6,14 @@ use Rattle.dy_term.specs.Terms.{Term}
 use Rattle.dy_entry.specs.Entries.{Entry, State, Forge}
 use Rattle.dy_entry.specs.LookUps.{is_covered}
 use Rattle.dy_recipe.specs.Moves.{Leaf, MessageAt, CertAt, FieldAt, Leaves}
+use Rattle.dy_recipe.specs.Values.{value_at}
 use Rattle.dy_eval.specs.Past.{key_certified}
 use Rattle.dy_eval.specs.Starts.{message_in}
 
--- a field of a State that some corruption covers
+-- the field that a number names of a State that some corruption covers, counted from 1
 abbrev pub field_given : List Entry → ℕ → Entry → Option Term
 field_given T field (State instance principal session version tag fields) =
-    if is_covered T principal session version then slice_get fields field else None
+    if is_covered T principal session version then value_at fields field else None
 field_given T field e = None
 
 abbrev pub is_forge_entry : Entry → Bool

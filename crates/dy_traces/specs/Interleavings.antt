@@ -7,7 +7,7 @@ use Rattle.dy_parse.specs.Reading.{Reads}
 use Rattle.dy_entry.specs.Entries.{Entry, Setup}
 use Rattle.dy_traces.specs.Following.{MayFollow}
 
--- A trace is an interleaving of a file: the bytes are the file, which is well formed, the trace opens with their
+-- A trace is an interleaving of a file. The bytes are the file, which is well formed, the trace opens with their
 -- Setup, and each later entry may follow those before it. Instances may stand unfinished.
 pub record Interleaves (bytes : List ℕ) (file : File) (T : List Entry) : Type 0 where
   pub reads : Reads bytes file

@@ -3,3 +3,4 @@ pub mod Instances
 pub mod Following
 pub mod Interleavings
 pub mod Given
+pub mod SmallValues

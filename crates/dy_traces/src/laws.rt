@@ -1,4 +1,4 @@
-ghost use Rattle.std.specs.Prelude.{◌≡◌, ℕ, ◌<◌, ◌≤◌, true, List, [], ◌∷◌, ◌++◌, take, length};
+ghost use Rattle.std.specs.Prelude.{◌≡◌, ℕ, ◌<◌, ◌≤◌, true, List, [], ◌∷◌, ◌++◌, Some, slice_get, take, length};
 ghost use Rattle.dy_syntax.specs.Files.{File};
 ghost use Rattle.dy_syntax.specs.Rules.{IsWellFormed};
 ghost use Rattle.dy_parse.specs.Reading.{Reads};
@@ -9,6 +9,7 @@ ghost use Rattle.dy_traces.specs.declared.limits.TheConstants.{MAX_STEPS};
 ghost use Rattle.dy_traces.specs.Steps.{has_step, IsShort};
 ghost use Rattle.dy_traces.specs.Following.{MayFollow};
 ghost use Rattle.dy_traces.specs.Interleavings.{Interleaves};
+ghost use Rattle.dy_traces.specs.SmallValues.{HasSmallValues};
 
 use dy_parse::one_file;
 
@@ -54,4 +55,10 @@ pub fn versions_stand_once()
     ensures once { (bytes : List ℕ) (file : File) (T : List Entry) → Interleaves bytes file T → HasEachVersionOnce T }
     ensures few { (bytes : List ℕ) (file : File) (T : List Entry) (principal : List ℕ) (session : ℕ) →
         Interleaves bytes file T → newest T principal session ≤ length T }
+{}
+
+/// In an interleaving each value of an entry has at most 1,024 nodes.
+pub fn values_are_small()
+    ensures { (bytes : List ℕ) (file : File) (T : List Entry) (i : ℕ) (e : Entry) →
+        Interleaves bytes file T → slice_get T i ≡ Some e → HasSmallValues e }
 {}

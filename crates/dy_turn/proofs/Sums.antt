@@ -40,7 +40,7 @@ module _ {V : Type 0} (f g : V → ℕ) where
   sum_by-nothing : (vs : List V) → ((seat : ℕ) (v : V) → get_elem? vs seat ≡ some v → g v ≡ 0 → f v ≡ 0) → sum_by g vs ≡ 0 → sum_by f vs ≡ 0
   sum_by-nothing vs each none = sum_by-none f vs (λ seat v at. each seat v at (omega (arith, one_of g vs seat v at)))
 
-  -- where one of them is the whole of a sum, it is the whole of each sum to which nothing adds but what adds to the first
+  -- where one of them is the whole of a sum, it is the whole of each sum that grows only where the first does
   pub sum_by-alone : (vs : List V) (seat : ℕ) (v : V) → get_elem? vs seat ≡ some v → ((j : ℕ) (u : V) → get_elem? vs j ≡ some u → g u ≡ 0 → f u ≡ 0) → sum_by g vs ≡ g v → sum_by f vs ≡ f v
   sum_by-alone [] seat v at each whole = absurd (some-ne-none v (sym at))
   sum_by-alone (x ∷ xs) zero v at each whole =

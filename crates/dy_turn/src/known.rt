@@ -1,6 +1,5 @@
-//! What seats know, and the rule of the table that they share.
-//! Word 0 is how many items the history has, word 1 how many tickets were drawn and word 2 how many were served, both
-//! modulo 2^64. The one slot has the value.
+//! What seats know, and the rule of the table that they share. Word 0 is how many items the history has. Word 1 is
+//! how many tickets were drawn and word 2 how many were served, both modulo 2^64. The one slot has the value.
 use crate::counted::Counted;
 use atomic_table::{Table, TableRule};
 use std::alloc::Global;

@@ -13,9 +13,8 @@ pub record StaticUse : Type 0 where
 abbrev pub is_same_use : StaticUse → StaticUse → Bool
 is_same_use usage other = bytes_eq usage.usage other.usage && bytes_eq usage.args other.args
 
--- What is claimed of a value: it has a usage; or it is the public (or the verification) key of a key with a usage,
--- whose label, when
--- open, opens this one.
+-- What is claimed of a value. It has a usage, or it is the public (or the verification) key of a key with a usage.
+-- The key's label, when open, opens this one.
 pub data ClaimOf (L : Type 0) : Type 0 where
   Use : (usage : StaticUse) → ClaimOf L
   Pk : (label : L) (usage : StaticUse) → ClaimOf L

@@ -41,7 +41,7 @@ declared_claims (Pk label usage) guard = claims.Pk (Join label guard) usage ∷ 
 declared_claims (Vk label usage) guard = claims.Vk (Join label guard) usage ∷ []
 declared_claims other guard = []
 
--- The knowledge of a field of what was opened: who has the key may have the field, and where the guard is open it may
+-- The knowledge of a field of what was opened. Who has the key may have the field, and where the guard is open it may
 -- be forged.
 abbrev pub narrow_by : Declared → StaticLabel → StaticLabel → Known
 narrow_by type hi guard = record {

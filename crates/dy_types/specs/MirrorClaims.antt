@@ -8,8 +8,8 @@ use Rattle.dy_types.specs.Claims.{StaticUse, ClaimOf, Use, Pk, Vk, uses_in, pk_l
 use Rattle.dy_types.specs.Tables.{Table, is_empty}
 use Rattle.dy_types.specs.MirrorMeets.{key_labels}
 
--- All of the one tables are set in the rows in which all of the others are, and there are some exactly where there
--- are others.
+-- All of the one tables are set in the rows in which all of the others are. There are some exactly where there are
+-- others.
 pub record MeetsAlike (tables others : List Table) : Type 0 where
   pub empty : is_empty tables ≡ is_empty others
   pub rows : (row : ℕ) → row < ROWS

@@ -83,7 +83,7 @@ pub fn claims_of(alloc: Global, declared: &Declared, guard: &Table) -> Result<It
     }
 }
 
-/// What is known of a field of what was opened, by its type: who has the key, with this hi, may have
+/// What is known of a field of what was opened, by its type. Who has the key, with this hi, may have
 /// the field, and where the guard is open it may be forged. It refuses out of memory alone.
 pub fn narrow(
     alloc: Global,

@@ -5,9 +5,9 @@ ghost use Rattle.dy_label.specs.Words.{StaticLabel, Choice, meaning_of, Implies}
 ghost use Rattle.dy_types.specs.Claims.{StaticUse, Known, HasUse, HasPk, HasVk, MeetImplies, IsWeaker, identify_with};
 ghost use Rattle.dy_types.specs.FieldTypes.{Declared, Fits, narrow_by};
 
-/// A meet of labels implies a label exactly where there are labels and, for every choice of
-/// principals, session and versions for the handler's words, and all corruptions, that label is
-/// open where all of them are.
+/// A meet of labels implies a label exactly where there are labels and, where all of them are open,
+/// that label is. This is for every choice of principals, session and versions for the handler's
+/// words, and all corruptions.
 pub fn what_a_meet_implies()
     ensures { (labels : List StaticLabel) (weaker : StaticLabel) → MeetImplies labels weaker ↔
         ((labels ≢ []) × ((choice : Choice) (corruptions : List Place) →
@@ -34,8 +34,8 @@ pub fn stronger_knowledge_has_more()
         IsWeaker stronger weaker → HasVk weaker label usage → HasVk stronger label usage }
 {}
 
-/// From stronger parts comes stronger knowledge: from a hi that more labels imply, from a guard that
-/// implies more labels, and from stronger knowledge of each of two values that are one.
+/// From stronger parts comes stronger knowledge. Parts are a hi that more labels imply, a guard that
+/// implies more labels, and stronger knowledge of each of two values that are one.
 pub fn weaker_parts_give_weaker_knowledge()
     ensures narrow_by { (type : Declared) (hi weaker_hi guard weaker_guard : StaticLabel) →
         Implies weaker_hi hi → Implies guard weaker_guard →

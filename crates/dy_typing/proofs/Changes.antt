@@ -14,7 +14,7 @@ use Rattle.dy_typing.specs.Names.{number_in, each_or_none}
 use Rattle.dy_typing.specs.Knowledge.{Knowledge, known_at, value_of, bind, with_claims, with_value, identify_value, claim_value, unite, same_values, same_names, add_fact, add_event, IsWellNumbered, IsWeakerKnowledge}
 use Rattle.dy_typing.proofs.ValueLaws.{Laws}
 use Rattle.dy_typing.proofs.Known.{value_of-weaker, HasFact-itself, HasFact-onward}
-use Rattle.dy_typing.proofs.Numbering.{renamed, value_within}
+use Rattle.dy_typing.proofs.Numbering.{renamed_number, value_within}
 use Rattle.dy_typing.proofs.Facts.{HasFact-unite, HasFact-bind, HasFact-more}
 use Rattle.dy_typing.proofs.Values.{EachIsWeaker-push, EachIsWeaker-set}
 use Rattle.dy_typing.proofs.Guards.{with_claims-weaker}
@@ -136,7 +136,7 @@ module _ (laws : Laws) (stronger weaker : Knowledge) (h : IsWeakerKnowledge stro
       → IsWeakerKnowledge (unite stronger value other) (unite weaker value other)
   unite-weaker value other here there = record {
     words = h.words;
-    first = ap (λ (first : List ℕ). map (renamed value other) first) h.first;
+    first = ap (λ (first : List ℕ). map (renamed_number value other) first) h.first;
     count = h.count;
     values = h.values;
     facts = λ fact has.

@@ -13,12 +13,12 @@ use Rattle.dy_typing.specs.Names.{Setting, Stands, name_number, case_stands, sta
 use Rattle.dy_typing.specs.Knowledge.{Knowledge, known_of, IsWellNumbered, IsWeakerKnowledge}
 use Rattle.dy_typing.specs.Instances.{label_in, use_in}
 use Rattle.dy_typing.specs.Expressions.{known_of_expr}
-use Rattle.dy_typing.specs.Effects.{match_field, match_fields, compared, Guarded, add_guarded, types_in, state_events, open_case, match_case, open_state, match_state, vouching, shown_by, found_key, fresh, add_checked, check_fields, check_case, opened_with, verified_in, after}
+use Rattle.dy_typing.specs.Effects.{match_field, match_fields, guard_of_compared, Guarded, add_guarded, types_in, state_events, open_case, match_case, open_state, match_state, vouching, shown_by, found_key, fresh, add_checked, check_fields, check_case, opened_with, verified_in, after}
 use Rattle.dy_typing.proofs.ValueLaws.{Laws}
 use Rattle.dy_typing.proofs.Meets.{Implies-itself}
 use Rattle.dy_typing.proofs.Known.{known_of-weaker}
 use Rattle.dy_typing.proofs.Expressions.{AreWeaker, known_of_expr-weaker}
-use Rattle.dy_typing.proofs.Guards.{Implies-Meet, compared-weaker, vouching-weaker, opened_with-weaker, verified_in-weaker, each_type-weaker, each_shown-weaker}
+use Rattle.dy_typing.proofs.Guards.{Implies-Meet, guard_of_compared-weaker, vouching-weaker, opened_with-weaker, verified_in-weaker, each_type-weaker, each_shown-weaker}
 use Rattle.dy_typing.proofs.Changes.{option_map_or-weaker, bind-weaker, identify_value-weaker, claim_value-weaker, add_event-weaker, same_names-weaker}
 
 -- What is done for each of a list.
@@ -151,18 +151,18 @@ module _ (laws : Laws) where
       let secret = known_of stronger (Named key) in
       let weaker_secret = known_of weaker (Named key) in
       let known = known_of-weaker laws stronger weaker h (Named key) in
-      let guard = Meet secret.lo (compared stronger pats) in
-      let weaker_guard = Meet weaker_secret.lo (compared weaker pats) in
-      let fewer = Implies-Meet secret.lo (compared stronger pats) weaker_secret.lo (compared weaker pats) known.lo
-      (compared-weaker laws stronger weaker h pats) in
+      let guard = Meet secret.lo (guard_of_compared stronger pats) in
+      let weaker_guard = Meet weaker_secret.lo (guard_of_compared weaker pats) in
+      let fewer = Implies-Meet secret.lo (guard_of_compared stronger pats) weaker_secret.lo (guard_of_compared weaker pats) known.lo
+      (guard_of_compared-weaker laws stronger weaker h pats) in
       match_case-weaker setting stronger weaker h (opened_with secret guard) (opened_with weaker_secret weaker_guard)
       (opened_with-weaker laws secret weaker_secret guard weaker_guard known fewer) guard weaker_guard fewer usage tag.text pats
   after-weaker setting stronger weaker (s.Popened value key usage tag pats) numbered h =
       let secret = known_of stronger (Named key) in
       let weaker_secret = known_of weaker (Named key) in
-      let guard = compared stronger pats in
-      let weaker_guard = compared weaker pats in
-      let fewer = compared-weaker laws stronger weaker h pats in
+      let guard = guard_of_compared stronger pats in
+      let weaker_guard = guard_of_compared weaker pats in
+      let fewer = guard_of_compared-weaker laws stronger weaker h pats in
       match_case-weaker setting stronger weaker h (opened_with secret guard) (opened_with weaker_secret weaker_guard)
       (opened_with-weaker laws secret weaker_secret guard weaker_guard (known_of-weaker laws stronger weaker h (Named key)) fewer)
       guard weaker_guard fewer usage tag.text pats

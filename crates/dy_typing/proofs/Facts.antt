@@ -10,28 +10,28 @@ use Rattle.dy_typing.proofs.Elements.{filter_map-from, Contains-filter_map}
 use Rattle.dy_typing.proofs.ValueLaws.{Laws}
 use Rattle.dy_typing.proofs.Meets.{MeetImplies-each, MeetImplies-from_each}
 use Rattle.dy_typing.proofs.Known.{fact_with, HasFact-itself}
-use Rattle.dy_typing.proofs.Numbering.{first_of-get_or, renamed}
+use Rattle.dy_typing.proofs.Numbering.{first_of-get_or, renamed_number}
 
-renamed-past : (value other number : ℕ) → value < number → other < number → renamed value other number ≡ number
-renamed-past value other number first second = chosen (number == max value other) refl where
+renamed_number-past : (value other number : ℕ) → value < number → other < number → renamed_number value other number ≡ number
+renamed_number-past value other number first second = chosen (number == max value other) refl where
   chosen : (b : Bool) → (number == max value other) ≡ b → (if b then min value other else number) ≡ number
   chosen true is = let same = eqb-true number (max value other) is in absurd (omega arith)
   chosen false is = refl
 
 -- The new first of a variable is the old one, renamed.
 pub first_of-unite : (first : List ℕ) (value other : ℕ) → value < length first → other < length first → (number : ℕ)
-    → first_of (map (renamed value other) first) number ≡ renamed value other (first_of first number)
+    → first_of (map (renamed_number value other) first) number ≡ renamed_number value other (first_of first number)
 first_of-unite first value other here there number = elim (cases_lt number (length first)) [
   | inl within ↦
-      first_of-get_or (map (renamed value other) first) number
-      ∙ get_or-map (renamed value other) first number number number within
-      ∙ ap (renamed value other) (sym (first_of-get_or first number))
+      first_of-get_or (map (renamed_number value other) first) number
+      ∙ get_or-map (renamed_number value other) first number number number within
+      ∙ ap (renamed_number value other) (sym (first_of-get_or first number))
   | inr past ↦
-      let mapped = length-map first (renamed value other) in
-      first_of-get_or (map (renamed value other) first) number
-      ∙ get_or_past (map (renamed value other) first) number number (omega arith)
-      ∙ sym (renamed-past value other number (omega arith) (omega arith))
-      ∙ ap (renamed value other) (sym (first_of-get_or first number ∙ get_or_past first number number past))
+      let mapped = length-map first (renamed_number value other) in
+      first_of-get_or (map (renamed_number value other) first) number
+      ∙ get_or_past (map (renamed_number value other) first) number number (omega arith)
+      ∙ sym (renamed_number-past value other number (omega arith) (omega arith))
+      ∙ ap (renamed_number value other) (sym (first_of-get_or first number ∙ get_or_past first number number past))
 ]
 
 -- One more variable leaves the firsts of the others, and is its own.
@@ -78,10 +78,10 @@ module _ (first anew : List ℕ) (rename : ℕ → ℕ) (each_renamed : (number 
       (HasFact-itself laws anew facts fact found.1)))
 
   -- What has happened has happened where each first variable has a new number.
-  pub HasFact-renamed : Laws → (facts : List Fact) (event args : List ℕ) (guard : StaticLabel)
+  pub HasFact-renamed_number : Laws → (facts : List Fact) (event args : List ℕ) (guard : StaticLabel)
       → HasFact first facts event (map (first_of first) args) guard
       → HasFact anew facts event (map (first_of anew) args) guard
-  HasFact-renamed laws facts event args guard has =
+  HasFact-renamed_number laws facts event args guard has =
       MeetImplies-from_each laws
       (guards_of anew facts event (map (first_of anew) args)) (guards_of first facts event (map (first_of first) args))
       (guard_renamed laws facts event args) guard has
@@ -90,9 +90,9 @@ module _ (first anew : List ℕ) (rename : ℕ → ℕ) (each_renamed : (number 
 pub HasFact-unite : Laws → (first : List ℕ) (value other : ℕ) → value < length first → other < length first
     → (facts : List Fact) (event args : List ℕ) (guard : StaticLabel)
     → HasFact first facts event (map (first_of first) args) guard
-    → HasFact (map (renamed value other) first) facts event (map (first_of (map (renamed value other) first)) args) guard
+    → HasFact (map (renamed_number value other) first) facts event (map (first_of (map (renamed_number value other) first)) args) guard
 HasFact-unite laws first value other here there facts event args guard has =
-    HasFact-renamed first (map (renamed value other) first) (renamed value other)
+    HasFact-renamed_number first (map (renamed_number value other) first) (renamed_number value other)
     (first_of-unite first value other here there) laws facts event args guard has
 
 -- What has happened has happened where one more variable is bound.
@@ -100,7 +100,7 @@ pub HasFact-bind : Laws → (first : List ℕ) (facts : List Fact) (event args :
     → HasFact first facts event (map (first_of first) args) guard
     → HasFact (first ++ length first ∷ []) facts event (map (first_of (first ++ length first ∷ [])) args) guard
 HasFact-bind laws first facts event args guard has =
-    HasFact-renamed first (first ++ length first ∷ []) (λ number. number) (first_of-bind first) laws facts event args guard has
+    HasFact-renamed_number first (first ++ length first ∷ []) (λ number. number) (first_of-bind first) laws facts event args guard has
 
 -- What has happened has happened where more has.
 pub HasFact-more : Laws → (first : List ℕ) (facts more : List Fact) (event values : List ℕ) (guard : StaticLabel)

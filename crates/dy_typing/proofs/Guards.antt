@@ -7,7 +7,7 @@ use Rattle.dy_types.specs.Claims.{StaticUse, Known, vk_labels, meet_of, MeetImpl
 use Rattle.dy_types.specs.FieldTypes.{Declared, declared_claims, narrow_by}
 use Rattle.dy_syntax.specs.Statements.{Pattern, Bind, Named, Equal}
 use Rattle.dy_typing.specs.Knowledge.{Knowledge, known_of, with_claims, IsWeakerKnowledge}
-use Rattle.dy_typing.specs.Effects.{compared, vouching, shown_by, opened_with, verified_in}
+use Rattle.dy_typing.specs.Effects.{guard_of_compared, vouching, shown_by, opened_with, verified_in}
 use Rattle.dy_typing.proofs.ValueLaws.{Laws}
 use Rattle.dy_typing.proofs.Meets.{opens, Implies-itself}
 use Rattle.dy_typing.proofs.Known.{known_of-weaker}
@@ -23,31 +23,31 @@ Implies-Meet first second weaker_first weaker_second h k = λ choice corruptions
     and_from (label weaker_first) (label weaker_second) (h choice corruptions parts.0) (k choice corruptions parts.1)
 
 -- The variables that fields are compared with are all open in fewer cases.
-pub compared-weaker : Laws → (stronger weaker : Knowledge) → IsWeakerKnowledge stronger weaker → (pats : List Pattern)
-    → Implies (compared stronger pats) (compared weaker pats)
-compared-weaker laws stronger weaker h [] = Implies-itself Public
-compared-weaker laws stronger weaker h (Bind name ∷ pats) = compared-weaker laws stronger weaker h pats
-compared-weaker laws stronger weaker h (Named line name ∷ pats) = compared-weaker laws stronger weaker h pats
-compared-weaker laws stronger weaker h (Equal line to ∷ pats) =
-    Implies-Meet (known_of stronger to).lo (compared stronger pats) (known_of weaker to).lo (compared weaker pats)
-    (known_of-weaker laws stronger weaker h to).lo (compared-weaker laws stronger weaker h pats)
+pub guard_of_compared-weaker : Laws → (stronger weaker : Knowledge) → IsWeakerKnowledge stronger weaker → (pats : List Pattern)
+    → Implies (guard_of_compared stronger pats) (guard_of_compared weaker pats)
+guard_of_compared-weaker laws stronger weaker h [] = Implies-itself Public
+guard_of_compared-weaker laws stronger weaker h (Bind name ∷ pats) = guard_of_compared-weaker laws stronger weaker h pats
+guard_of_compared-weaker laws stronger weaker h (Named line name ∷ pats) = guard_of_compared-weaker laws stronger weaker h pats
+guard_of_compared-weaker laws stronger weaker h (Equal line to ∷ pats) =
+    Implies-Meet (known_of stronger to).lo (guard_of_compared stronger pats) (known_of weaker to).lo (guard_of_compared weaker pats)
+    (known_of-weaker laws stronger weaker h to).lo (guard_of_compared-weaker laws stronger weaker h pats)
 
 -- the meet of all labels, which is for all where there is none
-abbrev vouched : List StaticLabel → StaticLabel
-vouched [] = Public
-vouched (label ∷ labels) = meet_of label labels
+abbrev vouched_label : List StaticLabel → StaticLabel
+vouched_label [] = Public
+vouched_label (label ∷ labels) = meet_of label labels
 
-vouched-weaker : (labels weaker : List StaticLabel) → ((label : StaticLabel) → MeetImplies weaker label → MeetImplies labels label)
-    → Implies (vouched labels) (vouched weaker)
-vouched-weaker labels [] h = λ choice corruptions opened. refl
-vouched-weaker [] (label ∷ weaker) h = absurd (h (meet_of label weaker) (Implies-itself (meet_of label weaker)))
-vouched-weaker (first ∷ labels) (label ∷ weaker) h = h (meet_of label weaker) (Implies-itself (meet_of label weaker))
+vouched_label-weaker : (labels weaker : List StaticLabel) → ((label : StaticLabel) → MeetImplies weaker label → MeetImplies labels label)
+    → Implies (vouched_label labels) (vouched_label weaker)
+vouched_label-weaker labels [] h = λ choice corruptions opened. refl
+vouched_label-weaker [] (label ∷ weaker) h = absurd (h (meet_of label weaker) (Implies-itself (meet_of label weaker)))
+vouched_label-weaker (first ∷ labels) (label ∷ weaker) h = h (meet_of label weaker) (Implies-itself (meet_of label weaker))
 
 -- A verification key vouches under a label that is open in fewer cases.
 pub vouching-weaker : (stronger weaker : Known) → IsWeaker stronger weaker → (usage : StaticUse)
     → Implies (vouching stronger usage) (vouching weaker usage)
 vouching-weaker stronger weaker h usage =
-    vouched-weaker (vk_labels stronger.claims usage) (vk_labels weaker.claims usage) (λ label. h.vks label usage)
+    vouched_label-weaker (vk_labels stronger.claims usage) (vk_labels weaker.claims usage) (λ label. h.vks label usage)
 
 module _ (laws : Laws) where
   -- What all may see of a value has no claims.

@@ -21,7 +21,7 @@ use Rattle.dy_typing.specs.Names.{Setting, setting_of, name_number, number_in, c
 use Rattle.dy_typing.specs.Knowledge.{Knowledge, self_alone, known_at, known_of, value_of, bind, with_claims, add_fact, with_value, identify_value, claim_value, unite, same_values, same_names, add_event, IsWellNumbered}
 use Rattle.dy_typing.specs.Instances.{label_in, use_in}
 use Rattle.dy_typing.specs.Expressions.{known_of_expr}
-use Rattle.dy_typing.specs.Effects.{types_in, case_events, state_events, compared, vouching, shown_by, found_key, fresh, opened_with, verified_in, match_field, match_fields, Guarded, add_guarded, open_case, match_case, open_state, match_state, add_checked, check_fields, check_case, after, bind_plain, bound_first, start_of}
+use Rattle.dy_typing.specs.Effects.{types_in, case_events, state_events, guard_of_compared, vouching, shown_by, found_key, fresh, opened_with, verified_in, match_field, match_fields, Guarded, add_guarded, open_case, match_case, open_state, match_state, add_checked, check_fields, check_case, after, bind_plain, bound_first, start_of}
 
 pub first_of-get_or : (first : List ℕ) (number : ℕ) → first_of first number ≡ get_or first number number
 first_of-get_or first number = unwrap_or-slice_get first number number
@@ -77,25 +77,25 @@ with_value-numbered : (k : Knowledge) (number : ℕ) (known : Known) → IsWellN
 with_value-numbered k number known numbered = record { words = numbered.words; values = numbered.values }
 
 -- the earlier of two values in the place of the later
-abbrev pub renamed : ℕ → ℕ → ℕ → ℕ
-renamed value other number = if number == max value other then min value other else number
+abbrev pub renamed_number : ℕ → ℕ → ℕ → ℕ
+renamed_number value other number = if number == max value other then min value other else number
 
-renamed-below : (value other number bound : ℕ) → value < bound → number < bound → renamed value other number < bound
-renamed-below value other number bound first third = chosen (number == max value other) where
+renamed_number-below : (value other number bound : ℕ) → value < bound → number < bound → renamed_number value other number < bound
+renamed_number-below value other number bound first third = chosen (number == max value other) where
   chosen : (b : Bool) → (if b then min value other else number) < bound
   chosen true = omega arith
   chosen false = third
 
 pub unite-numbered : (k : Knowledge) (value other : ℕ) → value < length k.first → IsWellNumbered k → IsWellNumbered (unite k value other)
 unite-numbered k value other inside numbered = record {
-  words = let same = length-map k.first (renamed value other) in let below = numbered.words in omega arith;
+  words = let same = length-map k.first (renamed_number value other) in let below = numbered.words in omega arith;
   values = λ number below.
-      let same = length-map k.first (renamed value other) in
+      let same = length-map k.first (renamed_number value other) in
       let within : number < length k.first = omega arith in
-      let is = first_of-get_or (map (renamed value other) k.first) number in
-      let at = get_or-map (renamed value other) k.first number number number within in
+      let is = first_of-get_or (map (renamed_number value other) k.first) number in
+      let at = get_or-map (renamed_number value other) k.first number number number within in
       let was = first_of-get_or k.first number in
-      let least = renamed-below value other (get_or k.first number number) (length k.first) inside
+      let least = renamed_number-below value other (get_or k.first number number) (length k.first) inside
       (subst (λ (n : ℕ). n < length k.first) was (numbered.values number within)) in
       omega arith;
 }
@@ -196,10 +196,10 @@ after-numbered setting k (s.Recall state pats) numbered = match_state-numbered s
 after-numbered setting k (s.Split value tag pats) numbered =
     match_fields-numbered k pats (map (λ pat. shown_by (known_of k (Named value)) []) pats) numbered
 after-numbered setting k (s.Opened value key usage tag pats ad) numbered =
-    let guard = Meet (known_of k (Named key)).lo (compared k pats) in
+    let guard = Meet (known_of k (Named key)).lo (guard_of_compared k pats) in
     match_case-numbered setting k (opened_with (known_of k (Named key)) guard) guard usage tag.text pats numbered
 after-numbered setting k (s.Popened value key usage tag pats) numbered =
-    let guard = compared k pats in
+    let guard = guard_of_compared k pats in
     match_case-numbered setting k (opened_with (known_of k (Named key)) guard) guard usage tag.text pats numbered
 after-numbered setting k (s.Verify value key usage tag pats) numbered =
     let guard = vouching (known_of k (Named key)) (use_in (name_number setting) usage) in

@@ -1,5 +1,5 @@
--- What a statement demands, in the order in which demands are named: by condition, then by operation from the left, the
--- outer one first, then by field, partner or event.
+-- What a statement demands, in the order in which demands are named. They are ordered by condition, then by operation
+-- from the left, the outer one first, then by field, partner or event.
 use Rattle.std.specs.Prelude.{ℕ, suc, List, [], ◌∷◌, ◌++◌, map, zip, Option, Some, None}
 use Rattle.std.specs.Option.{option_map_or}
 use Rattle.std.specs.List.{flat_map}
@@ -84,21 +84,21 @@ numbered_from number make [] = []
 numbered_from number make (x ∷ xs) = make number x ∷ numbered_from (suc number) make xs
 
 -- each field of a declaration with the expression in its place
-abbrev pub fitted : (Nm → Option ℕ) → Option Atom → List Field → List Expr → List Fitted
-fitted number here fields values =
+abbrev pub fitted_fields : (Nm → Option ℕ) → Option Atom → List Field → List Expr → List Fitted
+fitted_fields number here fields values =
     numbered_from 1
     (λ n pair. record { number = n; type = type_in number here pair.0.kind; value = pair.1 })
     (zip fields values)
 
-abbrev pub required : Stands → ℕ → AtomText → Required
-required stands number atom = record { number = number; event = atom.event.word; args = atom_names stands atom }
+abbrev pub requirement_of : Stands → ℕ → AtomText → Required
+requirement_of stands number atom = record { number = number; event = atom.event.word; args = atom_names stands atom }
 
 -- the partners of a declaration, whose words stand for these
-abbrev pub owed : Setting → Stands → Option Atom → List Partner → List Owed
-owed setting stands here partners =
+abbrev pub partners_owed : Setting → Stands → Option Atom → List Partner → List Owed
+partners_owed setting stands here partners =
     numbered_from 1
     (λ n partner. record {
-      event = required stands n partner.atom;
+      event = requirement_of stands n partner.atom;
       unless = label_in (stands_number setting stands) here partner.unless;
     })
     partners
@@ -170,7 +170,7 @@ reader_demands setting _ = []
 abbrev pub case_field_demands : Setting → Sealing → List Nm → CaseDecl → List Demand
 case_field_demands setting sealing args case =
     let stands = case_stands setting.decls args case (exprs_names sealing.fields) in
-    map (FieldFits sealing) (fitted (stands_number setting stands) None case.fields sealing.fields)
+    map (FieldFits sealing) (fitted_fields (stands_number setting stands) None case.fields sealing.fields)
 
 abbrev pub field_demands : Setting → Operation → List Demand
 field_demands setting (Seals kind key usage tag fields) =
@@ -182,7 +182,7 @@ field_demands setting (Opens kind key usage) = []
 abbrev pub case_event_demands : Setting → Sealing → List Nm → CaseDecl → List Demand
 case_event_demands setting sealing args case =
     let stands = case_stands setting.decls args case (exprs_names sealing.fields) in
-    map (EventStands sealing) (numbered_from 1 (required stands) case.requires_)
+    map (EventStands sealing) (numbered_from 1 (requirement_of stands) case.requires_)
 
 abbrev pub event_demands : Setting → Operation → List Demand
 event_demands setting (Seals kind key usage tag fields) =
@@ -198,7 +198,7 @@ operation_demands setting operations =
 
 -- Each partner of an event has happened, unless its label is open.
 abbrev pub after_demands : Setting → List Nm → EventDecl → List Demand
-after_demands setting args event = map PartnerStands (owed setting (event_stands event args) None event.after)
+after_demands setting args event = map PartnerStands (partners_owed setting (event_stands event args) None event.after)
 
 abbrev pub partner_demands : Setting → AtomText → List Demand
 partner_demands setting atom =
@@ -208,8 +208,9 @@ partner_demands setting atom =
 abbrev pub state_demands : Setting → List Expr → StateDecl → List Demand
 state_demands setting fields state =
     let stands = state_stands state (exprs_names fields) in
-    let stored = fitted (stands_number setting stands) (Some Next) state.fields fields in
-    map PartnerStands (owed setting stands (Some Next) state.knows) ++ map StoreKeeps stored ++ map StoreFits stored
+    let stored = fitted_fields (stands_number setting stands) (Some Next) state.fields fields in
+    map PartnerStands (partners_owed setting stands (Some Next) state.knows)
+    ++ map StoreKeeps stored ++ map StoreFits stored
 
 abbrev pub store_demands : Setting → Id → List Expr → List Demand
 store_demands setting state fields =

@@ -35,8 +35,8 @@ compared_lo k (Equal line to) = Some (known_of k to).lo
 compared_lo k _ = None
 
 -- The fields of what was opened may be forged where all variables are open that they were compared with.
-abbrev pub compared : Knowledge → List Pattern → StaticLabel
-compared k pats = meet_all (filter_map (compared_lo k) pats)
+abbrev pub guard_of_compared : Knowledge → List Pattern → StaticLabel
+guard_of_compared k pats = meet_all (filter_map (compared_lo k) pats)
 
 -- the events of a case or a state, with their guards
 pub record Guarded : Type 0 where
@@ -157,10 +157,10 @@ after setting k (s.Recall state pats) = match_state setting k None state.word pa
 after setting k (s.Split value tag pats) =
     match_fields k pats (map (λ pat. shown_by (known_of k (Named value)) []) pats)
 after setting k (s.Opened value key usage tag pats ad) =
-    let guard = Meet (known_of k (Named key)).lo (compared k pats) in
+    let guard = Meet (known_of k (Named key)).lo (guard_of_compared k pats) in
     match_case setting k (opened_with (known_of k (Named key)) guard) guard usage tag.text pats
 after setting k (s.Popened value key usage tag pats) =
-    let guard = compared k pats in
+    let guard = guard_of_compared k pats in
     match_case setting k (opened_with (known_of k (Named key)) guard) guard usage tag.text pats
 after setting k (s.Verify value key usage tag pats) =
     let guard = vouching (known_of k (Named key)) (use_in (name_number setting) usage) in

@@ -112,8 +112,8 @@ pub record IsWellNumbered (k : Knowledge) : Type 0 where
   pub words : length k.words < length k.first
   pub values : (number : ℕ) → number < length k.first → first_of k.first number < length k.first
 
--- The second knowledge is weaker than the first, or says the same: of the same variables, with the same ones equal,
--- each value is known as well in the first, and each fact of the second is one that the first has.
+-- The second knowledge is weaker than the first, or says the same. It is of the same variables, with the same ones
+-- equal. Each value is known as well in the first, and each fact of the second is one that the first has.
 pub record IsWeakerKnowledge (stronger weaker : Knowledge) : Type 0 where
   pub words : weaker.words ≡ stronger.words
   pub first : weaker.first ≡ stronger.first

@@ -9,8 +9,8 @@ use Rattle.dy_typing.specs.Demands.{Demand, demands_of, condition_of, field_of}
 use Rattle.dy_typing.specs.Conditions.{AreMet}
 use Rattle.dy_typing.specs.Effects.{after, start_of}
 
--- A derivation: from what is known at the start, by the rules of statements whose demands are met, and by weakening
--- anywhere, this is known after these statements.
+-- A derivation: this is known after these statements, from what is known at the start. It goes by the rules of
+-- statements whose demands are met, and by weakening anywhere.
 pub data Derives (setting : Setting) (start : Knowledge) : List Statement → Knowledge → Type 0 where
   begins : Derives setting start [] start
   weakens : {done : List Statement} {k : Knowledge} (weaker : Knowledge)
@@ -35,8 +35,8 @@ abbrev pub CanMeet : List Decl → Handler → List Statement → List Demand �
 CanMeet decls handler done demands =
     (k : Knowledge) × Reaches decls handler done k × AreMet decls k demands
 
--- The place where a handler is refused: the first statement up to which no derivation meets all demands, and the first
--- of its demands up to which none does.
+-- The place where a handler is refused. It is the first statement up to which no derivation meets all demands, and
+-- the first of its demands up to which none does.
 pub record IsRefusedIn (decls : List Decl) (handler : Handler) (line condition field : ℕ) : Type 0 where
   pub done : List Statement
   pub statement : Statement

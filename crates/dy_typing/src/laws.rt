@@ -53,8 +53,8 @@ pub fn variables_stay_well_numbered()
         IsWellNumbered k → IsWellNumbered (after setting k act) }
 {}
 
-/// Each rule of a statement gives from stronger knowledge the same or stronger knowledge, where each
-/// variable has a first one among those that are bound.
+/// Each rule of a statement gives from stronger knowledge the same or stronger knowledge. It asks
+/// that each variable has a first one among those that are bound.
 pub fn statements_keep_the_order()
     ensures { (setting : Setting) (stronger weaker : Knowledge) (act : Act) → IsWellNumbered stronger →
         IsWeakerKnowledge stronger weaker → IsWeakerKnowledge (after setting stronger act) (after setting weaker act) }
@@ -65,7 +65,7 @@ pub fn statements_keep_the_order()
     weaker_parts_give_weaker_knowledge();
 }
 
-/// The derivation that never weakens decides: a handler has a derivation exactly where that one
+/// The derivation that never weakens decides. A handler has a derivation exactly where that one
 /// meets all demands, and is refused where that one first does not.
 pub fn the_strongest_derivation_decides()
     ensures typed { (decls : List Decl) (handler : Handler) → HasDerivation decls handler ↔

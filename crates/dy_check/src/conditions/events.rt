@@ -1,6 +1,6 @@
 ghost use Rattle.std.specs.Prelude.{ℕ, ◌≤◌, length, map, IfOk};
 ghost use Rattle.dy_syntax.specs.Meaning.{atom_of, case_of, decl_of, use_of};
-ghost use Rattle.dy_typing.specs.Demands.{Sealing, EventStands, required, case_event_demands, event_demands};
+ghost use Rattle.dy_typing.specs.Demands.{Sealing, EventStands, requirement_of, case_event_demands, event_demands};
 ghost use Rattle.dy_check.specs.Meaning.{setting_of};
 ghost use Rattle.dy_check.specs.declared.settings.Setting as setting;
 ghost use Rattle.dy_check.specs.OperationsMeaning.{operation_of, sealing_in};
@@ -33,7 +33,7 @@ fn is_event_met(
 ) -> Result<bool, Memory>
     ensures { IfOk result (λ met. (setting : setting.Setting) (sealing : Sealing) (number : ℕ) →
         IsSealerTable setting known.now sealing sealer.now → TellsIfMet setting known.now
-        (EventStands sealing (required (stands_in reading.now) number (atom_of atom.now))) met) }
+        (EventStands sealing (requirement_of (stands_in reading.now) number (atom_of atom.now))) met) }
 {
     Ok(has_happened(alloc, known, reading, atom, sealer)? || is_public(sealer))
 }

@@ -38,8 +38,8 @@ pub(crate) fn has_happened(
         label)) }
 {
     match atom_names(alloc, reading.stands, atom)? {
-        None => known.happened(alloc, &atom.event.word, None, unless),
-        Some(names) => known.happened(alloc, &atom.event.word, Some(names.as_slice()), unless),
+        None => known.has_happened(alloc, &atom.event.word, None, unless),
+        Some(names) => known.has_happened(alloc, &atom.event.word, Some(names.as_slice()), unless),
     }
 }
 

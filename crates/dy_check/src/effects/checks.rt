@@ -48,7 +48,7 @@ fn claim_fields(
     Ok(())
 }
 
-/// After a tag is checked, each argument is claimed to be what its field of the case says, and the
+/// After a tag is checked, each argument is claimed to be what its field of the case says. The
 /// case's events happened, where the guard is not open. It refuses out of memory alone.
 fn check_fields<'x>(
     alloc: Global,

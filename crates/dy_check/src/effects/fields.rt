@@ -85,9 +85,13 @@ pub(crate) fn match_fields(
 
 /// The table of the label where the fields of what was opened may be forged: all variables are open
 /// that they were compared with. It refuses out of memory alone.
-pub(crate) fn compared(alloc: Global, known: &Knowledge, pats: &[Pattern]) -> Result<Table, Memory>
+pub(crate) fn guard_of_compared(
+    alloc: Global,
+    known: &Knowledge,
+    pats: &[Pattern],
+) -> Result<Table, Memory>
     ensures { IfOk result (λ table. (k : typing.Knowledge) → KnowledgeHasTables k (knowledge_of known.now) →
-        HasTable (effects.compared k (map pattern_of pats.now)) table) }
+        HasTable (effects.guard_of_compared k (map pattern_of pats.now)) table) }
 {
     let mut table = public_table();
     for i in (0..pats.len()).rev() {

@@ -18,7 +18,7 @@ ghost use Rattle.dy_check.specs.Meaning.{knowledge_of, setting_of};
 ghost use Rattle.dy_check.specs.MirrorOpenings.{IsOpening};
 ghost use Rattle.dy_check.specs.Tables.{KnowledgeHasTables};
 
-use crate::effects::fields::compared;
+use crate::effects::fields::guard_of_compared;
 use crate::effects::openings::{Opening, Way, known_from, opening_by};
 use crate::expressions::is_of_kind;
 use crate::knowledge::Knowledge;
@@ -34,7 +34,7 @@ use dy_types::{Claim, Known, StaticUse, add_claim, public_table};
 use sqlite_items::Items;
 use std::alloc::Global;
 
-/// Of what is opened with a secret key: the fields may be forged where the key is open and all
+/// Of what is opened with a secret key. The fields may be forged where the key is open and all
 /// variables that they are compared with. It refuses out of memory alone.
 pub(crate) fn by_secret_key(
     alloc: Global,
@@ -44,15 +44,16 @@ pub(crate) fn by_secret_key(
 ) -> Result<Opening, Memory>
     ensures { IfOk result (λ opening. (k : typing.Knowledge) → KnowledgeHasTables k (knowledge_of known.now) →
         IsOpening Opened (typing.known_of k (Named (id_of key.now))).hi
-        (Meet (typing.known_of k (Named (id_of key.now))).lo (effects.compared k (map pattern_of pats.now))) opening) }
+        (Meet (typing.known_of k (Named (id_of key.now))).lo
+        (effects.guard_of_compared k (map pattern_of pats.now))) opening) }
 {
     let key = known.known_of(alloc, NmRef::Named(key))?;
-    let guard = compared(alloc, known, pats)?;
+    let guard = guard_of_compared(alloc, known, pats)?;
     let guard = meet(&key.lo, &guard);
     Ok(opening_by(Way::Opened, &key.hi, &guard))
 }
 
-/// Of what is opened with the key of a public key: the fields may be forged where all variables are
+/// Of what is opened with the key of a public key. The fields may be forged where all variables are
 /// open that they are compared with. It refuses out of memory alone.
 pub(crate) fn by_private_key(
     alloc: Global,
@@ -62,10 +63,10 @@ pub(crate) fn by_private_key(
 ) -> Result<Opening, Memory>
     ensures { IfOk result (λ opening. (k : typing.Knowledge) → KnowledgeHasTables k (knowledge_of known.now) →
         IsOpening Opened (typing.known_of k (Named (id_of key.now))).hi
-        (effects.compared k (map pattern_of pats.now)) opening) }
+        (effects.guard_of_compared k (map pattern_of pats.now)) opening) }
 {
     let key = known.known_of(alloc, NmRef::Named(key))?;
-    let guard = compared(alloc, known, pats)?;
+    let guard = guard_of_compared(alloc, known, pats)?;
     Ok(opening_by(Way::Opened, &key.hi, &guard))
 }
 
@@ -81,7 +82,7 @@ fn vouching(key: &Known, usage: &StaticUse) -> Table
     }
 }
 
-/// Of what is verified: who knows the signed value may know the fields, and they may be forged where
+/// Of what is verified. Who knows the signed value may know the fields, and they may be forged where
 /// the key does not vouch for them. It refuses out of memory alone.
 pub(crate) fn by_verification_key(
     alloc: Global,

@@ -23,8 +23,8 @@ pub(crate) enum Way {
     Verified,
 }
 
-/// How the fields of a value come to be known, the table of the label where who reads the value may
-/// know them, and that of the label where they may be forged.
+/// How the fields of a value come to be known. It has the table of the label where who reads the
+/// value may know them. It has that of the label where they may be forged.
 #[derive(Clone, Copy)]
 pub(crate) struct Opening {
     pub(crate) way: Way,

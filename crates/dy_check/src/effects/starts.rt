@@ -39,8 +39,8 @@ fn bound_first(alloc: Global, handler: &Handler) -> Result<Knowledge, Memory>
     Ok(known)
 }
 
-/// What is known at the start of a handler: of its arguments and the received message, and then what
-/// the state has that it goes on from. It refuses out of memory alone.
+/// What is known at the start of a handler. It is what is known of its arguments and the received
+/// message, and then of the state that it goes on from. It refuses out of memory alone.
 pub(crate) fn at_start(
     alloc: Global,
     setting: &Setting,

@@ -1,4 +1,4 @@
--- Two tests of the table: no two rules of a part begin with the same token, and what may be left out is not
+-- Two tests of the table. No two rules of a part begin with the same token. What may be left out is not
 -- followed by a token that it begins with.
 use Rattle.std.specs.Prelude.{Bool, true, false, ◌&&◌, ◌||◌, not, is_none, List, [], ◌∷◌, codes}
 use Rattle.std.specs.List.{list_all}

@@ -135,31 +135,31 @@ first_at_some file tokens f h =
 -- ---- one first limit
 
 -- a limit by its number
-abbrev named : ℕ → LimitName
-named n = unwrap_or (slice_get (Word ∷ Word ∷ Text ∷ Nesting ∷ Usages ∷ Cases ∷ Events ∷ States ∷ Handlers ∷ Statements ∷ Names ∷ Fields ∷ Leaves ∷ Partners ∷ Rows ∷ Rounds ∷ Steps ∷ Principals ∷ []) n) Word
+abbrev limit_numbered : ℕ → LimitName
+limit_numbered n = unwrap_or (slice_get (Word ∷ Word ∷ Text ∷ Nesting ∷ Usages ∷ Cases ∷ Events ∷ States ∷ Handlers ∷ Statements ∷ Names ∷ Fields ∷ Leaves ∷ Partners ∷ Rows ∷ Rounds ∷ Steps ∷ Principals ∷ []) n) Word
 
-named-number : (which : LimitName) → named (number which) ≡ which
-named-number Word = refl
-named-number Text = refl
-named-number Nesting = refl
-named-number Usages = refl
-named-number Cases = refl
-named-number Events = refl
-named-number States = refl
-named-number Handlers = refl
-named-number Statements = refl
-named-number Names = refl
-named-number Fields = refl
-named-number Leaves = refl
-named-number Partners = refl
-named-number Rows = refl
-named-number Rounds = refl
-named-number Steps = refl
-named-number Principals = refl
+limit_numbered-number : (which : LimitName) → limit_numbered (number which) ≡ which
+limit_numbered-number Word = refl
+limit_numbered-number Text = refl
+limit_numbered-number Nesting = refl
+limit_numbered-number Usages = refl
+limit_numbered-number Cases = refl
+limit_numbered-number Events = refl
+limit_numbered-number States = refl
+limit_numbered-number Handlers = refl
+limit_numbered-number Statements = refl
+limit_numbered-number Names = refl
+limit_numbered-number Fields = refl
+limit_numbered-number Leaves = refl
+limit_numbered-number Partners = refl
+limit_numbered-number Rows = refl
+limit_numbered-number Rounds = refl
+limit_numbered-number Steps = refl
+limit_numbered-number Principals = refl
 
 pub one_first : (file : File) (tokens : List Piece) (which other : LimitName) (line other_line : ℕ)
     → IsFirstLimit which line file tokens → IsFirstLimit other other_line file tokens → (line ≡ other_line) × (which ≡ other)
-one_first file tokens which other line other_line a b = (same_line, sym (named-number which) ∙ ap named same_number ∙ named-number other) where
+one_first file tokens which other line other_line a b = (same_line, sym (limit_numbered-number which) ∙ ap limit_numbered same_number ∙ limit_numbered-number other) where
   same_line : line ≡ other_line
   same_line = omega (arith, a.line_is_least other other_line b.breaks, b.line_is_least which line a.breaks)
 

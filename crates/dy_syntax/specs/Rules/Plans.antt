@@ -57,8 +57,8 @@ is_wanted decls wanted action = false
 abbrev pub lines_of_no_earlier : ℕ → Option StepAt → Id → List ℕ
 lines_of_no_earlier round found step = lines_if (not (is_earlier round found)) step.line
 
--- What is named is no step of the sort that is wanted: a forge step, a start step, one that sends, one that opens a
--- session.
+-- What is named is no step of the sort that is wanted. A sort is a forge step, a start step, one that sends, or one
+-- that opens a session.
 abbrev pub lines_of_unwanted : List Decl → Wanted → Option StepAt → Id → List ℕ
 lines_of_unwanted decls wanted found step =
     option_map_or (λ at. lines_if (not (is_wanted decls wanted at.step.action)) step.line) found []
@@ -78,7 +78,7 @@ abbrev pub lines_of_msg : statements.Handler → Option Numbered → List ℕ
 lines_of_msg handler None = []
 lines_of_msg handler (Some msg) = lines_if (is_none handler.recv) msg.line
 
--- the handler has `on` and the step has none, or the handler has `recv` and the step no `msg`; the fault is at the
+-- the handler has `on` and the step has none, or the handler has `recv` and the step no `msg`. The fault is at the
 -- handler's name
 abbrev pub lines_of_lacking : statements.Handler → Id → Option OnStep → Option Numbered → List ℕ
 lines_of_lacking declared handler on msg =

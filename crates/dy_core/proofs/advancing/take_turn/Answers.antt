@@ -3,7 +3,7 @@ use Rattle.dy_entry.specs.Entries.{Entry}
 use Rattle.dy_entry.specs.Meaning.{entry_of}
 use Rattle.dy_eval.specs.Past.{HasEachVersionOnce}
 use Rattle.dy_eval.specs.Meaning.{standing_of}
-use Rattle.dy_eval.specs.Turns.{emitted, next_asked, standing_after, HasRoomForVersions}
+use Rattle.dy_eval.specs.Turns.{emit_of, next_asked, standing_after, HasRoomForVersions}
 use Rattle.dy_core.proofs.Mapped.{take-map}
 use Rattle.dy_core.proofs.advancing.take_turn.Goals as goal
 
@@ -18,7 +18,7 @@ next-requires-clause-room c =
 pub returns-clause-emit : goal.returns-clause-emit
 returns-clause-emit c =
     let kept = c.args.kept.now in
-    subst (λ (X : List Entry). IfOk c.next.result (λ emit. emit ≡ emitted (next_asked X (standing_of kept.instance) kept.landed)))
+    subst (λ (X : List Entry). IfOk c.next.result (λ emit. emit ≡ emit_of (next_asked X (standing_of kept.instance) kept.landed)))
     (take-map entry_of kept.start c.args.entries.now) c.next.ensures.emit
 
 pub returns-clause-stands : goal.returns-clause-stands

@@ -1,10 +1,10 @@
-use Rattle.std.proofs.Common.{◌+◌, map, subst, arith}
+use Rattle.std.proofs.Common.{◌≡◌, ◌+◌, map, arith}
 use Rattle.std.specs.Prelude.{string_bytes}
 use Rattle.dy_lex.specs.declared.limits.TheConstants.{MAX_SOURCE_BYTES}
-use Rattle.dy_tool.specs.declared.statuses.Status.{Status}
-use Rattle.dy_tool.specs.Due.{IsDueBy, IsDueByCheck, EachInterleavingIsSecure}
+use Rattle.dy_tool.specs.declared.statuses.Status.TheVariants.{Done}
+use Rattle.dy_tool.specs.Due.{IsDueBy, EachInterleavingIsSecure}
 use Rattle.dy_tool.specs.Answers.{Owes}
-use Rattle.dy_tool.proofs.Owed.{due_with, due_by_check, owes_words, owes_too_long, said_leaves, said_done, told_holds}
+use Rattle.dy_tool.proofs.Owed.{due_with, is_check, owes_words, owes_too_long, said_leaves, said_done, told_holds}
 use Rattle.dy_tool.proofs.commands.quiet.Goals as goal
 
 pub returns-in_default-clause-leaves : goal.returns-in_default-clause-leaves
@@ -19,7 +19,7 @@ returns-in-Ok-answer-clause-leaves g c =
     let answer = c.in-Ok-answer.answer in
     let bytes = c.in-Ok.bytes.items in
     let command = c.in-Some.command in
-    let judged : IsDueBy command bytes answer.status answer.text.items = rw c.deref.ensures.value at c.in-Ok-answer.ensures in
+    let judged : IsDueBy command bytes answer.status answer.text.items = rw c.deref.ensures.value at c.in-Ok-answer.ensures.due in
     let owed : Owes words (g.S.Source.left c.args.source.now) answer.status answer.text.items = record {
       bytes = bytes;
       told = c.in-Ok.ensures.whole;
@@ -32,12 +32,10 @@ returns-in-Ok-answer-clause-secure g c = λ check done.
     let words = map string_bytes c.args.words.now in
     let answer = c.in-Ok-answer.answer in
     let bytes = c.in-Ok.bytes.items in
-    let text = answer.text.items in
     let command = c.in-Some.command in
-    let judged : IsDueBy command bytes answer.status text = rw c.deref.ensures.value at c.in-Ok-answer.ensures in
-    let by_check = due_by_check command words bytes answer.status text c.in-Some.ensures check judged in
-    let is_done = said_done _ _ _ _ answer.status text _ (rw c.as_slice.ensures.value at c.say-in-Ok-answer.ensures) done in
-    told_holds EachInterleavingIsSecure (g.S.Source.left c.args.source.now) bytes c.in-Ok.ensures.whole (c.accepted_files_are_secure.ensures bytes text (subst (λ (status : Status). IsDueByCheck bytes status text) is_done by_check))
+    let is_done : answer.status ≡ Done = said_done _ _ _ _ answer.status answer.text.items _ (rw c.as_slice.ensures.value at c.say-in-Ok-answer.ensures) done in
+    let secure : EachInterleavingIsSecure bytes = (rw c.deref.ensures.value at c.in-Ok-answer.ensures.secure) (is_check command words c.in-Some.ensures check) is_done in
+    told_holds EachInterleavingIsSecure (g.S.Source.left c.args.source.now) bytes c.in-Ok.ensures.whole secure
 
 pub returns-in-Err-TooLong-clause-leaves : goal.returns-in-Err-TooLong-clause-leaves
 returns-in-Err-TooLong-clause-leaves g c =

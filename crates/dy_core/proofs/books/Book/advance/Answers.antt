@@ -2,12 +2,16 @@ use Rattle.std.proofs.Common.{◌≡◌, ◌==◌, List, None, refl, sym, subst}
 use Rattle.std.proofs.Math.Logic.{∥∥₁_elim}
 use Rattle.std.specs.List.{position}
 use Rattle.dy_syntax.specs.Meaning.{file_of}
+use Rattle.dy_syntax.specs.declared.files.File as files
+use Rattle.dy_traces.specs.Interleavings.{Interleaves}
 use Rattle.dy_entry.specs.declared.entries.Entry as declared
 use Rattle.dy_entry.specs.Meaning.{entries_of}
 use Rattle.dy_traces.specs.Instances.{end_of}
 use Rattle.dy_core.specs.declared.running.Running.{Running}
 use Rattle.dy_core.specs.Answers.{IsInstance}
+use Rattle.dy_core.specs.BookMeaning.{trace_of}
 use Rattle.dy_core.proofs.Stepping.{none_two}
+use Rattle.dy_core.proofs.Interleaved.{advanced_keeps}
 use Rattle.dy_core.proofs.Turning.{no_place}
 use Rattle.dy_core.proofs.books.Book.advance.Goals as goal
 
@@ -22,3 +26,9 @@ unreachable-requires c =
     subst (λ (rs : List Running). position (λ (kept : Running). kept.start == instance) rs ≡ None) c.as_slice-3.ensures.value (sym c.in-None.ensures.first) in
     ∥∥₁_elim c.args.self.now.holds none_two
     (λ book. no_place (file_of c.args.self.now.file) (entries_of c.args.self.now.entries.items) c.args.self.now.running.items instance stands goes_on none book)
+
+pub returns-clause-interleaves : goal.returns-clause-interleaves
+returns-clause-interleaves c = λ bytes is_one.
+    subst (λ (f : files.File). Interleaves bytes (file_of f) (trace_of c.take_step.new.self)) (sym c.take_step.ensures.file)
+    (advanced_keeps c.a_longer_interleaving.ensures.longer (file_of c.args.self.now.file) (trace_of c.args.self.now) (trace_of c.take_step.new.self) bytes is_one
+    c.args.instance c.take_step.result c.take_step.ensures.answer)

@@ -11,12 +11,14 @@ use Rattle.dy_entry.specs.Meaning.{entry_of, entries_of}
 use Rattle.dy_eval.specs.declared.items.Emit.TheVariants as emits
 use Rattle.dy_eval.specs.Meaning.{standing_of}
 use Rattle.dy_eval.specs.Past.{HasEachVersionOnce}
-use Rattle.dy_eval.specs.Turns.{emitted, standing_after, HasRoomForVersions}
+use Rattle.dy_eval.specs.Turns.{emit_of, standing_after, HasRoomForVersions}
 use Rattle.dy_core.specs.declared.running.Running.{Running}
 use Rattle.dy_core.specs.MirrorBooks.{IsBook, next_of_kept, item_entry}
+use Rattle.dy_traces.specs.Instances.{next_entry}
 use Rattle.dy_traces.proofs.Prefixes.{below_length}
-use Rattle.dy_core.proofs.Stepping.{IsAsked-prop, none_two, place_holds, item_put, book_with_end, book_as_before, book_with_put}
-use Rattle.dy_core.proofs.Turning.{once_from, room_from, once_before, starts_late, room_before, puts_from, ends_from, grown_to}
+use Rattle.dy_core.proofs.NextOnce.{next_prop}
+use Rattle.dy_core.proofs.Stepping.{IsAsked-prop, none_two, place_holds, item_put, end_next, put_next, book_with_end, book_as_before, book_with_put}
+use Rattle.dy_core.proofs.Turning.{once_from, room_from, once_before, starts_late, room_before, puts_from, ends_from, trace_more, grown_to}
 use Rattle.dy_core.proofs.books.Book.take_step.Goals as goal
 
 pub take_turn-requires-clause-within : goal.take_turn-requires-clause-within
@@ -83,8 +85,8 @@ invariant_of-self-in-Ok-End-clause-holds c =
     let outcome = c.in-Ok-End.outcome in
     let place = place_holds running c.args.at c.args.instance old c.requires.place c.remove-kept.ensures.value in
     let same_slice = c.as_slice.ensures.value ∙ c.reserve.ensures.items in
-    let answers : emitted (next_of_kept T old) ≡ emits.End outcome =
-    ap (λ (es : List declared.Entry). emitted (next_of_kept (entries_of es) old)) (sym same_slice) ∙ sym c.in-Ok-End.ensures.emit ∙ c.in-Ok-End.field-0-is in
+    let answers : emit_of (next_of_kept T old) ≡ emits.End outcome =
+    ap (λ (es : List declared.Entry). emit_of (next_of_kept (entries_of es) old)) (sym same_slice) ∙ sym c.in-Ok-End.ensures.emit ∙ c.in-Ok-End.field-0-is in
     let ends = ends_from (next_of_kept T old) outcome answers in
     let names : End old.start outcome ≡ End c.args.instance outcome = ap (λ n. End n outcome) place.1 in
     ∥∥₁_elim c.args.self.now.holds ∥∥₁_prop (λ book. ∣ grown_to file entries c.reserve.new.self.items c.push_within-in-Ok-End.new.items.items _
@@ -105,8 +107,8 @@ invariant_of-self-in-Ok-Put-clause-holds c =
     let e = entry_of c.item_entry-entry.result in
     let place = place_holds running c.args.at c.args.instance old c.requires.place c.remove-kept.ensures.value in
     let same_slice = c.as_slice.ensures.value ∙ c.reserve.ensures.items in
-    let answers : emitted (next_of_kept T old) ≡ emits.Put item =
-    ap (λ (es : List declared.Entry). emitted (next_of_kept (entries_of es) old)) (sym same_slice) ∙ sym c.in-Ok-Put.ensures.emit ∙ c.in-Ok-Put.field-0-is in
+    let answers : emit_of (next_of_kept T old) ≡ emits.Put item =
+    ap (λ (es : List declared.Entry). emit_of (next_of_kept (entries_of es) old)) (sym same_slice) ∙ sym c.in-Ok-Put.ensures.emit ∙ c.in-Ok-Put.field-0-is in
     let puts = puts_from (next_of_kept T old) item answers in
     let r : Running = record { start = c.take_turn.new.kept.start; landed = Some c.len-index.result; instance = c.take_turn.new.kept.instance } in
     let stands : standing_of r.instance ≡ standing_after (next_of_kept T old) =
@@ -129,16 +131,52 @@ invariant_of-self-in-Ok-Put-clause-holds c =
 
 pub returns-in-Ok-Put-clause-answer : goal.returns-in-Ok-Put-clause-answer
 returns-in-Ok-Put-clause-answer c =
+    let file = file_of c.args.self.now.file in
     let entries = c.args.self.now.entries.items in
     let T = entries_of entries in
+    let running = c.args.self.now.running.items in
     let instance = c.args.instance in
+    let old = c.remove-kept.result in
     let item = c.in-Ok-Put.item in
     let e = entry_of c.item_entry-entry.result in
+    let place = place_holds running c.args.at instance old c.requires.place c.remove-kept.ensures.value in
     let filled : vec_len c.reserve.new.self ≡ length c.reserve.new.self.items = omega (arith, c.reserve.new.self.ok.0) in
     let index : c.len-index.result ≡ length T = c.len-index.ensures ∙ filled ∙ ap length c.reserve.ensures.items ∙ sym (length-map entries entry_of) in
+    let answers : emit_of (next_of_kept T old) ≡ emits.Put item =
+    ap (λ (es : List declared.Entry). emit_of (next_of_kept (entries_of es) old)) (sym (c.as_slice.ensures.value ∙ c.reserve.ensures.items)) ∙ sym c.in-Ok-Put.ensures.emit ∙ c.in-Ok-Put.field-0-is in
+    let puts = puts_from (next_of_kept T old) item answers in
+    let r : Running = record { start = c.take_turn.new.kept.start; landed = Some c.len-index.result; instance = c.take_turn.new.kept.instance } in
     let put_there : Some e ≡ option_and_then (item_entry instance item) (slice_get T instance) =
     c.item_entry-entry.ensures ∙ ap (λ (es : List declared.Entry). option_and_then (item_entry instance item) (slice_get (entries_of es) instance)) (c.as_slice-in-Ok-Put.ensures.value ∙ c.reserve.ensures.items) in
-    let facts = item_put instance item (slice_get T instance) e put_there in
-    let trace : entries_of c.push_within.new.items.items ≡ T ++ e ∷ [] =
-    ap entries_of (c.push_within.ensures ∙ ap (λ (es : List declared.Entry). es ++ c.item_entry-entry.result ∷ []) c.reserve.ensures.items) ∙ map-append entry_of entries (c.item_entry-entry.result ∷ []) in
-    (c.requires.stands, c.requires.goes_on, (e, facts.own instance ∙ eq-eqb instance instance refl, record { at = index; trace = trace }))
+    let put : Some e ≡ option_and_then (item_entry old.start item) (slice_get T old.start) =
+    put_there ∙ ap (λ n. option_and_then (item_entry n item) (slice_get T n)) (sym place.1) in
+    let next : next_entry file.decls T old.start ≡ Some e =
+    ∥∥₁_elim c.args.self.now.holds (next_prop _ _) (λ book.
+    put_next file T running c.args.at old place.0 r c.in-Ok-Put.ensures.start c.one_index_more_is_one_step_more.ensures.more e item puts.0 puts.1 puts.2 put book) in
+    let facts = item_put instance item (slice_get T instance) e put_there in (
+      e,
+      subst (λ n. next_entry file.decls T n ≡ Some e) place.1 next,
+      facts.own instance ∙ eq-eqb instance instance refl,
+      record { at = index; trace = trace_more entries c.reserve.new.self.items _ _ c.push_within.ensures c.reserve.ensures.items },
+    )
+
+pub returns-in-Ok-End-clause-answer : goal.returns-in-Ok-End-clause-answer
+returns-in-Ok-End-clause-answer c =
+    let file = file_of c.args.self.now.file in
+    let entries = c.args.self.now.entries.items in
+    let T = entries_of entries in
+    let running = c.args.self.now.running.items in
+    let instance = c.args.instance in
+    let old = c.remove-kept.result in
+    let outcome = c.in-Ok-End.outcome in
+    let place = place_holds running c.args.at instance old c.requires.place c.remove-kept.ensures.value in
+    let filled : vec_len c.reserve.new.self ≡ length c.reserve.new.self.items = omega (arith, c.reserve.new.self.ok.0) in
+    let index : c.len-index.result ≡ length T = c.len-index.ensures ∙ filled ∙ ap length c.reserve.ensures.items ∙ sym (length-map entries entry_of) in
+    let answers : emit_of (next_of_kept T old) ≡ emits.End outcome =
+    ap (λ (es : List declared.Entry). emit_of (next_of_kept (entries_of es) old)) (sym (c.as_slice.ensures.value ∙ c.reserve.ensures.items)) ∙ sym c.in-Ok-End.ensures.emit ∙ c.in-Ok-End.field-0-is in
+    let next : next_entry file.decls T old.start ≡ Some (End old.start outcome) =
+    ∥∥₁_elim c.args.self.now.holds (next_prop _ _) (λ book. end_next file T running c.args.at old place.0 outcome (ends_from (next_of_kept T old) outcome answers) book) in (
+      outcome,
+      subst (λ n. next_entry file.decls T n ≡ Some (End n outcome)) place.1 next,
+      record { at = index; trace = trace_more entries c.reserve.new.self.items _ _ c.push_within-in-Ok-End.ensures c.reserve.ensures.items },
+    )

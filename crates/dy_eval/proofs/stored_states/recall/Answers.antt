@@ -7,11 +7,11 @@ use Rattle.dy_flat.specs.Views.{tree_of}
 use Rattle.dy_syntax.specs.Meaning.{pattern_of}
 use Rattle.dy_eval.specs.Doings.{Effect}
 use Rattle.dy_eval.specs.EffectMeaning.{as_effect}
-use Rattle.dy_eval.specs.Patterns.{fits, matched}
+use Rattle.dy_eval.specs.Patterns.{fits, match_patterns}
 use Rattle.dy_eval.specs.NamesMeaning.{names_of}
 use Rattle.dy_eval.specs.StoredMeaning.{stored_of}
 use Rattle.dy_eval.proofs.Recalling.{At, recalled_found, recalled_none, passes_on, fewer_left}
-use Rattle.dy_eval.proofs.stored_states.recalled.Goals as goal
+use Rattle.dy_eval.proofs.stored_states.recall.Goals as goal
 
 none_left : (X : List Entry) (principal tag : List ℕ) (from : Option At) (state : Option code.Stored)
     → MatchOption state (HasNoNext X principal tag from) (λ stored. FoundNext X principal tag from (stored_of stored)) → state ≡ None → HasNoNext X principal tag from
@@ -27,8 +27,8 @@ returns-then-fits g c =
     let fit : fits names patterns stored.fields ≡ true =
     ap (fits names patterns) (sym (ap (map tree_of) c.as_slice.ensures.value ∙ c.in_ok-fields.ensures)) ∙ sym c.fits.ensures ∙ c.if-fits.true in
     let found = recalled_found X names c.args.tag.now patterns c.loop-stored.from stored c.in-Some.ensures c.states_are_in_one_order.ensures.total c.requires c.loop-stored.invariant fit in
-    subst (λ (e : Effect). IfOk c.matched.result (λ effect. as_effect effect ≡ e))
-    (ap (matched names patterns) (ap (map tree_of) c.as_slice-then-fits.ensures.value ∙ c.in_ok-fields.ensures) ∙ sym found) c.matched.ensures
+    subst (λ (e : Effect). IfOk c.match_patterns.result (λ effect. as_effect effect ≡ e))
+    (ap (match_patterns names patterns) (ap (map tree_of) c.as_slice-then-fits.ensures.value ∙ c.in_ok-fields.ensures) ∙ sym found) c.match_patterns.ensures
 
 pub loop-stored-smaller : goal.loop-stored-smaller
 loop-stored-smaller g c =

@@ -4,7 +4,7 @@ use Rattle.dy_flat.specs.Views.{tree_of}
 use Rattle.dy_syntax.specs.Meaning.{pattern_of}
 use Rattle.dy_eval.specs.NamesMeaning.{names_of}
 use Rattle.dy_eval.proofs.Matching.{as_many}
-use Rattle.dy_eval.proofs.patterns.matched.Goals as goal
+use Rattle.dy_eval.proofs.patterns.match_patterns.Goals as goal
 
 pub written_by-requires : goal.written_by-requires
 written_by-requires c =

@@ -3,7 +3,7 @@ use Rattle.std.specs.Prelude.{count_by}
 use Rattle.dy_syntax.specs.Meaning.{pattern_of}
 use Rattle.dy_eval.specs.NamesMeaning.{names_of}
 use Rattle.dy_eval.proofs.Recalling.{Passed, is_left}
-use Rattle.dy_eval.proofs.stored_states.recalled.Given as goal
+use Rattle.dy_eval.proofs.stored_states.recall.Given as goal
 
 -- all that match come after what was looked at
 abbrev pub invariant-loop-stored : goal.invariant-loop-stored

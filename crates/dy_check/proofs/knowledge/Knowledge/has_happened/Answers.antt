@@ -2,7 +2,7 @@ use Rattle.std.proofs.Common.{map, sym, ◌∙◌}
 use Rattle.std.proofs.lemmas.Bool.{true≢false}
 use Rattle.dy_check.specs.Meaning.{knowledge_of, nm_ref_of}
 use Rattle.dy_check.proofs.KnowledgeTables.{same_given_values}
-use Rattle.dy_check.proofs.knowledge.Knowledge.happened.Goals as goal
+use Rattle.dy_check.proofs.knowledge.Knowledge.has_happened.Goals as goal
 
 pub returns-in_default-2 : goal.returns-in_default-2
 returns-in_default-2 c = λ k label h t.
