@@ -79,3 +79,4 @@ pub mod OnStatement
 pub mod AllStatements
 pub mod SecurityDecided
 pub mod LowesSecrets
+pub mod RepairIsGood
