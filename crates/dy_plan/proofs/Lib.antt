@@ -1,2 +1,11 @@
 pub mod Rounds
+pub mod Nth
 pub mod Places
+pub mod Named
+pub mod LookUps
+pub mod Owners
+pub mod Resolutions
+pub mod Standing
+pub mod OneSerial
+pub mod Refusals
+pub mod Tuples

@@ -3,7 +3,8 @@ use Rattle.std.specs.Prelude.{◌≡◌, ℕ, ◌<◌, Bool, true, false, ◌&&�
 use Rattle.std.specs.Option.{option_and_then}
 use Rattle.std.specs.List.{slice_get}
 use Rattle.dy_syntax.specs.Plans.{Plan}
-use Rattle.dy_entry.specs.Entries.{Entry, Setup, Start, Fresh, Message, State, Event, Cert, End, Corrupt, Forge, Inject, Skip}
+use Rattle.dy_entry.specs.Entries.{Entry, Setup, Start, Fresh, Message, State, Event, Cert, End}
+use Rattle.dy_entry.specs.Entries.{Corrupt, Forge, Inject, Skip}
 use Rattle.dy_entry.specs.Summaries.{is_start}
 use Rattle.dy_traces.specs.Steps.{has_step}
 use Rattle.dy_traces.specs.Instances.{end_of}

@@ -1,6 +1,9 @@
 pub mod Steps
 pub mod Naming
+pub mod MirrorNames
 pub mod Recipes
+pub mod MirrorRecipes
 pub mod Resolving
 pub mod Completeness
 pub mod Dealing
+pub mod Meaning

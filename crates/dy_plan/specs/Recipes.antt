@@ -6,7 +6,8 @@ use Rattle.dy_entry.specs.Entries.{Entry}
 use Rattle.dy_recipe.specs.Moves as moves
 use Rattle.dy_recipe.specs.Moves.{Move}
 use Rattle.dy_syntax.specs.Plans.{Plan}
-use Rattle.dy_syntax.specs.Recipes.{RecipeText, Recipes, Nil, Cons, Lit, Tuple, Name, Msg, Cert, Nonce, Field, Pair, Pk, Vk, Penc, Aead, Sign, Mac, Kdf, Hash, Fst, Snd, Pdec, Adec, Ad, Body}
+use Rattle.dy_syntax.specs.Recipes.{RecipeText, Recipes, Nil, Cons, Lit, Tuple, Name, Msg, Cert, Nonce, Field, Pair}
+use Rattle.dy_syntax.specs.Recipes.{Pk, Vk, Penc, Aead, Sign, Mac, Kdf, Hash, Fst, Snd, Pdec, Adec, Ad, Body}
 use Rattle.dy_plan.specs.Naming.{message_named, cert_named, nonce_named, state_named}
 
 -- what adds moves to those before, where what it names is there

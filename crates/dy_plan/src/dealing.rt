@@ -22,7 +22,7 @@ pub fn deal(alloc: Global, round: &Round, workers: u32, worker: u32) -> Result<V
 }
 
 /// The count as a number of 32 bits, or out of memory.
-fn as_number(count: usize) -> Result<u32, Memory>
+pub(crate) fn as_number(count: usize) -> Result<u32, Memory>
     ensures { IfOk result (λ number. number ≡ count) }
 {
     match u32::try_from(count) {

@@ -20,7 +20,7 @@ pub fn step_count(plan: &Plan) -> u32
 }
 
 /// The step of this number, or `None` where the plan has no such step.
-pub fn numbered_step(plan: &Plan, number: u32) -> Option<&Step>
+pub(crate) fn numbered_step(plan: &Plan, number: u32) -> Option<&Step>
     ensures { option_map step_of (option_copied result) ≡ steps.numbered_step (plan_of plan.now) number }
 {
     let mut place = number as usize;
@@ -42,7 +42,7 @@ fn place_of(steps: &[Step], name: &Word) -> Option<usize>
 }
 
 /// The number of the first step of this name, or `None` where the plan has none. It has fewer than 2^32 steps.
-pub fn number_of(plan: &Plan, name: &Word) -> Option<u32>
+pub(crate) fn number_of(plan: &Plan, name: &Word) -> Option<u32>
     requires { steps.step_count (plan_of plan.now) < 2 ^ 32 }
     ensures { result ≡ steps.number_of (plan_of plan.now) name.now }
 {

@@ -1,0 +1,9 @@
+pub mod Lists
+pub mod StepsRun
+pub mod Runs
+pub mod Books
+pub mod Going
+pub mod Parts
+pub mod Asked
+pub mod Fitting
+pub mod Texts
