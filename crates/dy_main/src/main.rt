@@ -2,7 +2,7 @@
 #![tactic(auto)]
 
 use dy_io::{StdinSource, StdoutSink};
-use dy_tool::{Status, quiet};
+use dy_tool::{Status, tool};
 use std::env;
 use std::io::ErrorKind;
 use std::process::ExitCode;
@@ -23,7 +23,7 @@ fn run(rt: &HostRuntime) -> Status {
     let mut source = StdinSource::new(rt.stdin());
     let mut sink = StdoutSink::new(rt.stdout());
     match words(rt) {
-        Ok(words) => quiet(rt.alloc(), &words, &mut source, &mut sink),
+        Ok(words) => tool(rt.alloc(), &words, &mut source, &mut sink),
         Err(status) => status,
     }
 }

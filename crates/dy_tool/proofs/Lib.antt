@@ -1,8 +1,10 @@
 pub mod Words
+pub mod NamedCommands
 pub mod Owed
+pub mod Carried
 pub mod OneInput
 pub mod OneDue
 pub mod Within
 pub mod ShortFiles
 pub mod ReadBack
-mod JudgedFiles
+pub mod JudgedFiles

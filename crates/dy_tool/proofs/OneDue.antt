@@ -1,25 +1,30 @@
 -- For one input one status and one text are due.
-use Rattle.std.proofs.Common.{◌≡◌, ◌≢◌, ℕ, List, length, Some, None, subst, sym, refl, ap, ◌∙◌, ◌⊎◌, inl, inr, arith}
+use Rattle.std.proofs.Common.{◌≡◌, ℕ, List, length, Some, true, subst, sym, refl, ap, ◌∙◌, ◌⊎◌, inl, inr, arith}
 use Rattle.dy_syntax.specs.Files.{File, Decl}
-use Rattle.dy_syntax.specs.Rules.{IsWellFormed}
 use Rattle.dy_parse.specs.Reading.{Reads}
 use Rattle.dy_show.specs.Canonical.{canon}
 use Rattle.dy_cases.specs.DeclaredParts.{handlers_in}
 use Rattle.dy_typing.specs.Typing.{AreTyped, IsRefusedAt}
+use Rattle.dy_sound.specs.Acceptance.{IsTyped, IsRefusedFile}
 use Rattle.dy_tool.specs.declared.commands.Command.{Command}
-use Rattle.dy_tool.specs.declared.commands.Command.TheVariants.{Check, Show}
+use Rattle.dy_tool.specs.declared.commands.Command.TheVariants.{Check, Show, Run}
 use Rattle.dy_tool.specs.declared.statuses.Status.{Status}
 use Rattle.dy_tool.specs.declared.statuses.Status.TheVariants.{Done, NotAccepted, Words, Input, ReadFault, WriteFault, Memory, TooLong}
 use Rattle.dy_tool.specs.Texts.{accepted_text, refused_text, bad_words}
 use Rattle.dy_tool.specs.Protocols.{IsProtocol}
-use Rattle.dy_sound.specs.Acceptance.{IsTyped, IsRefusedFile}
-use Rattle.dy_tool.specs.Due.{check_words, show_words, AreRefused, IsNamed, IsRefusedInput, IsDue, IsDueBy, IsDueByCheck, IsDueByShow}
+use Rattle.dy_entry.specs.Entries.{Entry}
+use Rattle.dy_traces.specs.Interleavings.{Interleaves}
+use Rattle.dy_plan.specs.Completeness.{IsSerial}
+use Rattle.dy_trace_text.specs.TraceText.{trace_text}
+use Rattle.dy_tool.specs.Due.{AreRefused, IsNamed, IsUntyped, IsRefusedInput, IsTooLong, IsSerialRun, IsDue, IsDueBy, IsDoneBy, asks_for_typing}
+use Rattle.dy_tool.proofs.NamedCommands.{one_command, refused_or_named}
 use Rattle.dy_tool.proofs.OneInput.{ReadingLaws, no_fault, one_fault_text}
 
 -- the laws of the crates below
 pub record Laws : Type 0 where
   pub reading : ReadingLaws
   pub untyped : (decls : List Decl) (line condition field : ℕ) → IsRefusedAt decls line condition field → AreTyped decls (handlers_in decls) → ⊥
+  pub one_serial : (bytes : List ℕ) (file : File) (T other : List Entry) → Interleaves bytes file T → IsSerial file.plan T → Interleaves bytes file other → IsSerial file.plan other → T ≡ other
   pub place : (decls : List Decl) (line condition field other_line other_condition other_field : ℕ) → IsRefusedAt decls line condition field → IsRefusedAt decls other_line other_condition other_field → (line ≡ other_line) × (condition ≡ other_condition) × (field ≡ other_field)
 
 -- the text names a place by its three numbers
@@ -27,169 +32,167 @@ same_place : (line condition field other_line other_condition other_field : ℕ)
 same_place line condition field other_line other_condition other_field same_line same_condition same_field =
     ap (λ l. refused_text l condition field) same_line ∙ ap (λ k. refused_text other_line k field) same_condition ∙ ap (λ n. refused_text other_line other_condition n) same_field
 
+-- Why a status and a text are due.
+data Cause (command : Command) (bytes : List ℕ) : Status → List ℕ → Type 0 where
+  is_done : (text : List ℕ) → IsDoneBy command bytes text → Cause command bytes Done text
+  is_untyped : (text : List ℕ) → asks_for_typing command ≡ true → IsUntyped bytes text → Cause command bytes NotAccepted text
+  is_refused : (text : List ℕ) → IsRefusedInput bytes text → Cause command bytes Input text
+  is_long : (text : List ℕ) → IsTooLong bytes text → Cause command bytes TooLong text
+
+cause_of : (command : Command) (bytes : List ℕ) (status : Status) (text : List ℕ) → IsDueBy command bytes status text → Cause command bytes status text
+cause_of command bytes Done text due = is_done text due
+cause_of command bytes NotAccepted text due = is_untyped text due.0 due.1
+cause_of command bytes Words text due = absurd due
+cause_of command bytes Input text due = is_refused text due
+cause_of command bytes ReadFault text due = absurd due
+cause_of command bytes WriteFault text due = absurd due
+cause_of command bytes Memory text due = absurd due
+cause_of command bytes TooLong text due = is_long text due
+
+-- the bytes are a protocol
+record HasProtocol (bytes : List ℕ) : Type 0 where
+  pub file : File
+  pub protocol : IsProtocol bytes file
+
+-- the bytes are a typed file
+pub record HasTyped (bytes : List ℕ) : Type 0 where
+  pub file : File
+  pub reads : Reads bytes file
+  pub typed : IsTyped file
+
+protocol_run : (bytes : List ℕ) (file : File) (T : List Entry) → IsSerialRun bytes file T → HasProtocol bytes
+protocol_run bytes file T run = record { file = file; protocol = record { reads = run.interleaves.reads; well_formed = run.interleaves.well_formed } }
+
+-- what is done is done with a protocol
+protocol_done : (command : Command) (bytes text : List ℕ) → IsDoneBy command bytes text → HasProtocol bytes
+protocol_done Check bytes text due = record { file = due.0; protocol = record { reads = due.1; well_formed = due.2.0 } }
+protocol_done Show bytes text due = record { file = due.0; protocol = due.1 }
+protocol_done Run bytes text due = protocol_run bytes due.0 due.1 due.3
+
+protocol_untyped : (bytes text : List ℕ) → IsUntyped bytes text → HasProtocol bytes
+protocol_untyped bytes text due = record { file = due.0; protocol = record { reads = due.4; well_formed = due.5.0 } }
+
+pub typed_done : (command : Command) (bytes text : List ℕ) → asks_for_typing command ≡ true → IsDoneBy command bytes text → HasTyped bytes
+typed_done Check bytes text asks due = record { file = due.0; reads = due.1; typed = due.2 }
+typed_done Show bytes text asks due = absurd cc
+typed_done Run bytes text asks due = record { file = due.0; reads = due.3.interleaves.reads; typed = due.2 }
+
 module _ (laws : Laws) (bytes : List ℕ) where
-  -- the same status and the same text
-  abbrev Same : Status → List ℕ → Status → List ℕ → Type 0
-  Same status text other other_text = (status ≡ other) × (text ≡ other_text)
-
-  turned : {status other : Status} {text other_text : List ℕ} → Same other other_text status text → Same status text other other_text
-  turned same = (sym same.0, sym same.1)
-
   one_file : (a b : File) → Reads bytes a → Reads bytes b → a ≡ b
   one_file a b in_a in_b = laws.reading.one_file bytes a b in_a in_b
 
-  -- a file that is decided has no fault
-  no_input : (file : File) (text : List ℕ) → Reads bytes file → IsWellFormed file → IsDueByCheck bytes Input text → ⊥
-  no_input file text reads well_formed due =
-      let protocol : IsProtocol bytes file = record { reads = reads; well_formed = well_formed } in
-      no_fault laws.reading bytes file due.1.0 protocol due.1.1
+  -- the causes shut each other out
+  protocol_or_fault : HasProtocol bytes → (text : List ℕ) → IsRefusedInput bytes text → ⊥
+  protocol_or_fault has text due = no_fault laws.reading bytes has.file due.1.0 has.protocol due.1.1
 
-  -- where the file is accepted
-  when_done : (text : List ℕ) (other : Status) (other_text : List ℕ) → IsDueByCheck bytes Done text → IsDueByCheck bytes other other_text → Same Done text other other_text
-  when_done text Done other_text due due_other =
-      let same = one_file due.0 due_other.0 due.1 due_other.1 in
-      (refl, due.3 ∙ ap (λ (file : File). accepted_text (length (handlers_in file.decls))) same ∙ sym due_other.3)
-  when_done text NotAccepted other_text due due_other =
-      let same = one_file due.0 due_other.0 due.1 due_other.4 in
-      let typed : IsTyped due_other.0 = subst IsTyped same due.2 in
-      absurd (laws.untyped due_other.0.decls due_other.1 due_other.2 due_other.3 due_other.5.1 typed.1)
-  when_done text Words other_text due due_other = absurd due_other
-  when_done text Input other_text due due_other = absurd (no_input due.0 other_text due.1 due.2.0 due_other)
-  when_done text ReadFault other_text due due_other = absurd due_other
-  when_done text WriteFault other_text due due_other = absurd due_other
-  when_done text Memory other_text due due_other = absurd due_other
-  when_done text TooLong other_text due due_other = absurd (omega (arith, due.1.few, due_other.0))
+  protocol_or_long : HasProtocol bytes → (text : List ℕ) → IsTooLong bytes text → ⊥
+  protocol_or_long has text due = omega (arith, has.protocol.reads.few, due.0)
 
-  -- where a place is refused
-  when_refused : (text : List ℕ) (other : Status) (other_text : List ℕ) → IsDueByCheck bytes NotAccepted text → IsDueByCheck bytes other other_text → Same NotAccepted text other other_text
-  when_refused text Done other_text due due_other = turned (when_done other_text NotAccepted text due_other due)
-  when_refused text NotAccepted other_text due due_other =
-      let same = one_file due.0 due_other.0 due.4 due_other.4 in
-      let refused : IsRefusedFile due_other.0 due.1 due.2 due.3 = subst (λ (file : File). IsRefusedFile file due.1 due.2 due.3) same due.5 in
-      let place = laws.place due_other.0.decls due.1 due.2 due.3 due_other.1 due_other.2 due_other.3 refused.1 due_other.5.1 in
-      (refl, due.6 ∙ same_place due.1 due.2 due.3 due_other.1 due_other.2 due_other.3 place.0 place.1 place.2 ∙ sym due_other.6)
-  when_refused text Words other_text due due_other = absurd due_other
-  when_refused text Input other_text due due_other = absurd (no_input due.0 other_text due.4 due.5.0 due_other)
-  when_refused text ReadFault other_text due due_other = absurd due_other
-  when_refused text WriteFault other_text due due_other = absurd due_other
-  when_refused text Memory other_text due due_other = absurd due_other
-  when_refused text TooLong other_text due due_other = absurd (omega (arith, due.4.few, due_other.0))
+  fault_or_long : (text other : List ℕ) → IsRefusedInput bytes text → IsTooLong bytes other → ⊥
+  fault_or_long text other due long = omega (arith, due.0, long.0)
 
-  -- where the input is refused
-  when_input : (text : List ℕ) (other : Status) (other_text : List ℕ) → IsDueByCheck bytes Input text → IsDueByCheck bytes other other_text → Same Input text other other_text
-  when_input text Done other_text due due_other = turned (when_done other_text Input text due_other due)
-  when_input text NotAccepted other_text due due_other = turned (when_refused other_text Input text due_other due)
-  when_input text Words other_text due due_other = absurd due_other
-  when_input text Input other_text due due_other = (refl, one_fault_text laws.reading bytes text other_text due.1 due_other.1)
-  when_input text ReadFault other_text due due_other = absurd due_other
-  when_input text WriteFault other_text due due_other = absurd due_other
-  when_input text Memory other_text due due_other = absurd due_other
-  when_input text TooLong other_text due due_other = absurd (omega (arith, due.0, due_other.0))
+  typed_or_untyped : HasTyped bytes → (text : List ℕ) → IsUntyped bytes text → ⊥
+  typed_or_untyped has text due =
+      let same = one_file has.file due.0 has.reads due.4 in
+      let typed : IsTyped due.0 = subst IsTyped same has.typed in
+      laws.untyped due.0.decls due.1 due.2 due.3 due.5.1 typed.1
 
-  -- where too many bytes came
-  when_long : (text : List ℕ) (other : Status) (other_text : List ℕ) → IsDueByCheck bytes TooLong text → IsDueByCheck bytes other other_text → Same TooLong text other other_text
-  when_long text Done other_text due due_other = turned (when_done other_text TooLong text due_other due)
-  when_long text NotAccepted other_text due due_other = turned (when_refused other_text TooLong text due_other due)
-  when_long text Words other_text due due_other = absurd due_other
-  when_long text Input other_text due due_other = turned (when_input other_text TooLong text due_other due)
-  when_long text ReadFault other_text due due_other = absurd due_other
-  when_long text WriteFault other_text due due_other = absurd due_other
-  when_long text Memory other_text due due_other = absurd due_other
-  when_long text TooLong other_text due due_other = (refl, due.1 ∙ sym due_other.1)
+  -- one status is due
+  one_cause : (command : Command) (status other : Status) (text other_text : List ℕ) → Cause command bytes status text → Cause command bytes other other_text → status ≡ other
+  one_cause command _ _ _ _ (is_done text d) (is_done other_text o) = refl
+  one_cause command _ _ _ _ (is_done text d) (is_untyped other_text asks o) = absurd (typed_or_untyped (typed_done command bytes text asks d) other_text o)
+  one_cause command _ _ _ _ (is_done text d) (is_refused other_text o) = absurd (protocol_or_fault (protocol_done command bytes text d) other_text o)
+  one_cause command _ _ _ _ (is_done text d) (is_long other_text o) = absurd (protocol_or_long (protocol_done command bytes text d) other_text o)
+  one_cause command _ _ _ _ (is_untyped text asks d) (is_done other_text o) = absurd (typed_or_untyped (typed_done command bytes other_text asks o) text d)
+  one_cause command _ _ _ _ (is_untyped text asks d) (is_untyped other_text again o) = refl
+  one_cause command _ _ _ _ (is_untyped text asks d) (is_refused other_text o) = absurd (protocol_or_fault (protocol_untyped bytes text d) other_text o)
+  one_cause command _ _ _ _ (is_untyped text asks d) (is_long other_text o) = absurd (protocol_or_long (protocol_untyped bytes text d) other_text o)
+  one_cause command _ _ _ _ (is_refused text d) (is_done other_text o) = absurd (protocol_or_fault (protocol_done command bytes other_text o) text d)
+  one_cause command _ _ _ _ (is_refused text d) (is_untyped other_text asks o) = absurd (protocol_or_fault (protocol_untyped bytes other_text o) text d)
+  one_cause command _ _ _ _ (is_refused text d) (is_refused other_text o) = refl
+  one_cause command _ _ _ _ (is_refused text d) (is_long other_text o) = absurd (fault_or_long text other_text d o)
+  one_cause command _ _ _ _ (is_long text d) (is_done other_text o) = absurd (protocol_or_long (protocol_done command bytes other_text o) text d)
+  one_cause command _ _ _ _ (is_long text d) (is_untyped other_text asks o) = absurd (protocol_or_long (protocol_untyped bytes other_text o) text d)
+  one_cause command _ _ _ _ (is_long text d) (is_refused other_text o) = absurd (fault_or_long other_text text o d)
+  one_cause command _ _ _ _ (is_long text d) (is_long other_text o) = refl
 
-  -- what `check` answers
-  by_check : (status : Status) (text : List ℕ) (other : Status) (other_text : List ℕ) → IsDueByCheck bytes status text → IsDueByCheck bytes other other_text → Same status text other other_text
-  by_check Done text other other_text due due_other = when_done text other other_text due due_other
-  by_check NotAccepted text other other_text due due_other = when_refused text other other_text due due_other
-  by_check Words text other other_text due due_other = absurd due
-  by_check Input text other other_text due due_other = when_input text other other_text due due_other
-  by_check ReadFault text other other_text due due_other = absurd due
-  by_check WriteFault text other other_text due due_other = absurd due
-  by_check Memory text other other_text due due_other = absurd due
-  by_check TooLong text other other_text due due_other = when_long text other other_text due due_other
+  -- what is done has one text: of a plan there is one serial run
+  one_done : (command : Command) (text other : List ℕ) → IsDoneBy command bytes text → IsDoneBy command bytes other → text ≡ other
+  one_done Check text other due also =
+      let same = one_file due.0 also.0 due.1 also.1 in
+      due.3 ∙ ap (λ (file : File). accepted_text (length (handlers_in file.decls))) same ∙ sym also.3
+  one_done Show text other due also =
+      let same = one_file due.0 also.0 due.1.reads also.1.reads in
+      due.2 ∙ ap (λ (file : File). canon file) same ∙ sym also.2
+  one_done Run text other due also =
+      let same = one_file due.0 also.0 due.3.interleaves.reads also.3.interleaves.reads in
+      let run : IsSerialRun bytes also.0 due.1 = subst (λ (file : File). IsSerialRun bytes file due.1) same due.3 in
+      let trace = laws.one_serial bytes also.0 due.1 also.1 run.interleaves run.serial also.3.interleaves also.3.serial in
+      due.4 ∙ ap trace_text trace ∙ sym also.4
 
-  -- where the file is shown
-  when_shown : (text : List ℕ) (other : Status) (other_text : List ℕ) → IsDueByShow bytes Done text → IsDueByShow bytes other other_text → Same Done text other other_text
-  when_shown text Done other_text due due_other =
-      let same = laws.reading.one_file bytes due.0 due_other.0 due.1.reads due_other.1.reads in
-      (refl, due.2 ∙ ap (λ (file : File). canon file) same ∙ sym due_other.2)
-  when_shown text NotAccepted other_text due due_other = absurd due_other
-  when_shown text Words other_text due due_other = absurd due_other
-  when_shown text Input other_text due due_other = absurd (no_fault laws.reading bytes due.0 due_other.1.0 due.1 due_other.1.1)
-  when_shown text ReadFault other_text due due_other = absurd due_other
-  when_shown text WriteFault other_text due due_other = absurd due_other
-  when_shown text Memory other_text due due_other = absurd due_other
-  when_shown text TooLong other_text due due_other = absurd (omega (arith, due.1.reads.few, due_other.0))
+  one_place : (text other : List ℕ) → IsUntyped bytes text → IsUntyped bytes other → text ≡ other
+  one_place text other due also =
+      let same = one_file due.0 also.0 due.4 also.4 in
+      let refused : IsRefusedFile also.0 due.1 due.2 due.3 = subst (λ (file : File). IsRefusedFile file due.1 due.2 due.3) same due.5 in
+      let place = laws.place also.0.decls due.1 due.2 due.3 also.1 also.2 also.3 refused.1 also.5.1 in
+      due.6 ∙ same_place due.1 due.2 due.3 also.1 also.2 also.3 place.0 place.1 place.2 ∙ sym also.6
 
-  -- where it is not
-  when_unshown : (text : List ℕ) (other : Status) (other_text : List ℕ) → IsDueByShow bytes Input text → IsDueByShow bytes other other_text → Same Input text other other_text
-  when_unshown text Done other_text due due_other = turned (when_shown other_text Input text due_other due)
-  when_unshown text NotAccepted other_text due due_other = absurd due_other
-  when_unshown text Words other_text due due_other = absurd due_other
-  when_unshown text Input other_text due due_other = (refl, one_fault_text laws.reading bytes text other_text due.1 due_other.1)
-  when_unshown text ReadFault other_text due due_other = absurd due_other
-  when_unshown text WriteFault other_text due due_other = absurd due_other
-  when_unshown text Memory other_text due due_other = absurd due_other
-  when_unshown text TooLong other_text due due_other = absurd (omega (arith, due.0, due_other.0))
-
-  when_unread : (text : List ℕ) (other : Status) (other_text : List ℕ) → IsDueByShow bytes TooLong text → IsDueByShow bytes other other_text → Same TooLong text other other_text
-  when_unread text Done other_text due due_other = turned (when_shown other_text TooLong text due_other due)
-  when_unread text NotAccepted other_text due due_other = absurd due_other
-  when_unread text Words other_text due due_other = absurd due_other
-  when_unread text Input other_text due due_other = turned (when_unshown other_text TooLong text due_other due)
-  when_unread text ReadFault other_text due due_other = absurd due_other
-  when_unread text WriteFault other_text due due_other = absurd due_other
-  when_unread text Memory other_text due due_other = absurd due_other
-  when_unread text TooLong other_text due due_other = (refl, due.1 ∙ sym due_other.1)
-
-  -- what `show` answers
-  by_show : (status : Status) (text : List ℕ) (other : Status) (other_text : List ℕ) → IsDueByShow bytes status text → IsDueByShow bytes other other_text → Same status text other other_text
-  by_show Done text other other_text due due_other = when_shown text other other_text due due_other
-  by_show NotAccepted text other other_text due due_other = absurd due
-  by_show Words text other other_text due due_other = absurd due
-  by_show Input text other other_text due due_other = when_unshown text other other_text due due_other
-  by_show ReadFault text other other_text due due_other = absurd due
-  by_show WriteFault text other other_text due due_other = absurd due
-  by_show Memory text other other_text due due_other = absurd due
-  by_show TooLong text other other_text due due_other = when_unread text other other_text due due_other
-
-  by_command : (command also : Command) (words : List (List ℕ)) (status : Status) (text : List ℕ) (other : Status) (other_text : List ℕ) → IsNamed words (Some command) → IsNamed words (Some also) → IsDueBy command bytes status text → IsDueBy also bytes other other_text → Same status text other other_text
-  by_command Check Check words status text other other_text is again due due_other = by_check status text other other_text due due_other
-  by_command Check Show words status text other other_text is again due due_other = absurd (let both : check_words ≡ show_words = sym is ∙ again in cc)
-  by_command Show Check words status text other other_text is again due due_other = absurd (let both : check_words ≡ show_words = sym again ∙ is in cc)
-  by_command Show Show words status text other other_text is again due due_other = by_show status text other other_text due due_other
+  one_text_due : (command : Command) (status : Status) (text other : List ℕ) → IsDueBy command bytes status text → IsDueBy command bytes status other → text ≡ other
+  one_text_due command Done text other due also = one_done command text other due also
+  one_text_due command NotAccepted text other due also = one_place text other due.1 also.1
+  one_text_due command Words text other due also = absurd due
+  one_text_due command Input text other due also = one_fault_text laws.reading bytes text other due.1 also.1
+  one_text_due command ReadFault text other due also = absurd due
+  one_text_due command WriteFault text other due also = absurd due
+  one_text_due command Memory text other due also = absurd due
+  one_text_due command TooLong text other due also = due.1 ∙ sym also.1
 
   -- the words are refused, or those of a command
-  pub record IsAnswered (words : List (List ℕ)) (status : Status) (text : List ℕ) : Type 0 where
+  record IsAnswered (commands : List Command) (words : List (List ℕ)) (status : Status) (text : List ℕ) : Type 0 where
     pub command : Command
-    pub named : IsNamed words (Some command)
+    pub named : IsNamed commands words (Some command)
     pub due : IsDueBy command bytes status text
 
-  abbrev Split : List (List ℕ) → Status → List ℕ → Type 0
-  Split words status text = ((status ≡ Words) × AreRefused words × (text ≡ bad_words)) ⊎ IsAnswered words status text
+  abbrev Split : List Command → List (List ℕ) → Status → List ℕ → Type 0
+  Split commands words status text = ((status ≡ Words) × AreRefused commands words × (text ≡ bad_words)) ⊎ IsAnswered commands words status text
 
-  answered : {words : List (List ℕ)} {status : Status} {text : List ℕ} → ((command : Command) × IsNamed words (Some command) × IsDueBy command bytes status text) → Split words status text
+  answered : {commands : List Command} {words : List (List ℕ)} {status : Status} {text : List ℕ} → ((command : Command) × IsNamed commands words (Some command) × IsDueBy command bytes status text) → Split commands words status text
   answered due = inr (record { command = due.0; named = due.1; due = due.2 })
 
-  words_or_command : (words : List (List ℕ)) (status : Status) (text : List ℕ) → IsDue words bytes status text → Split words status text
-  words_or_command words Done text due = answered due
-  words_or_command words NotAccepted text due = answered due
-  words_or_command words Words text due = inl (refl, due.0, due.1)
-  words_or_command words Input text due = answered due
-  words_or_command words ReadFault text due = answered due
-  words_or_command words WriteFault text due = answered due
-  words_or_command words Memory text due = answered due
-  words_or_command words TooLong text due = answered due
+  words_or_command : (commands : List Command) (words : List (List ℕ)) (status : Status) (text : List ℕ) → IsDue commands words bytes status text → Split commands words status text
+  words_or_command commands words Done text due = answered due
+  words_or_command commands words NotAccepted text due = answered due
+  words_or_command commands words Words text due = inl (refl, due.0, due.1)
+  words_or_command commands words Input text due = answered due
+  words_or_command commands words ReadFault text due = answered due
+  words_or_command commands words WriteFault text due = answered due
+  words_or_command commands words Memory text due = answered due
+  words_or_command commands words TooLong text due = answered due
 
-  refused_or_named : (words : List (List ℕ)) (command : Command) → AreRefused words → IsNamed words (Some command) → ⊥
-  refused_or_named words Check refused named = refused.0 named
-  refused_or_named words Show refused named = refused.1 named
+  -- two commands with the same words are one
+  same_command : (commands : List Command) (words : List (List ℕ)) (command other : Command) → IsNamed commands words (Some command) → IsNamed commands words (Some other) → command ≡ other
+  same_command commands words command other named also = one_command command other (sym named.1 ∙ also.1)
 
-  -- with any words
-  pub one_due : (words : List (List ℕ)) (status other : Status) (text other_text : List ℕ) → IsDue words bytes status text → IsDue words bytes other other_text → Same status text other other_text
-  one_due words status other text other_text due due_other = both (words_or_command words status text due) (words_or_command words other other_text due_other) where
-    both : Split words status text → Split words other other_text → Same status text other other_text
-    both (inl refused) (inl again) = (refused.0 ∙ sym again.0, refused.2 ∙ sym again.2)
-    both (inl refused) (inr known) = absurd (refused_or_named words known.command refused.1 known.named)
-    both (inr known) (inl refused) = absurd (refused_or_named words known.command refused.1 known.named)
-    both (inr known) (inr again) = by_command known.command again.command words status text other other_text known.named again.named known.due again.due
+  -- with any words one status is due
+  pub one_status_due : (commands : List Command) (words : List (List ℕ)) (status other : Status) (text other_text : List ℕ) → IsDue commands words bytes status text → IsDue commands words bytes other other_text → status ≡ other
+  one_status_due commands words status other text other_text due due_other = both (words_or_command commands words status text due) (words_or_command commands words other other_text due_other) where
+    both : Split commands words status text → Split commands words other other_text → status ≡ other
+    both (inl refused) (inl again) = refused.0 ∙ sym again.0
+    both (inl refused) (inr known) = absurd (refused_or_named commands words known.command refused.1 known.named)
+    both (inr known) (inl refused) = absurd (refused_or_named commands words known.command refused.1 known.named)
+    both (inr known) (inr again) =
+        let same = same_command commands words known.command again.command known.named again.named in
+        let here : IsDueBy again.command bytes status text = subst (λ (c : Command). IsDueBy c bytes status text) same known.due in
+        one_cause again.command status other text other_text (cause_of again.command bytes status text here) (cause_of again.command bytes other other_text again.due)
+
+  -- and one text
+  pub one_text_due_with : (commands : List Command) (words : List (List ℕ)) (status : Status) (text other : List ℕ) → IsDue commands words bytes status text → IsDue commands words bytes status other → text ≡ other
+  one_text_due_with commands words status text other due due_other = both (words_or_command commands words status text due) (words_or_command commands words status other due_other) where
+    both : Split commands words status text → Split commands words status other → text ≡ other
+    both (inl refused) (inl again) = refused.2 ∙ sym again.2
+    both (inl refused) (inr known) = absurd (refused_or_named commands words known.command refused.1 known.named)
+    both (inr known) (inl refused) = absurd (refused_or_named commands words known.command refused.1 known.named)
+    both (inr known) (inr again) =
+        let same = same_command commands words known.command again.command known.named again.named in
+        let here : IsDueBy again.command bytes status text = subst (λ (c : Command). IsDueBy c bytes status text) same known.due in
+        one_text_due again.command status text other here again.due

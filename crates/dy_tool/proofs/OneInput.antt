@@ -1,9 +1,10 @@
 -- An input is one protocol, or it has one fault.
-use Rattle.std.proofs.Common.{◌≡◌, ℕ, List, subst, sym, ap, ◌∙◌, arith}
+use Rattle.std.proofs.Common.{◌≡◌, ℕ, List, inl, inr, subst, sym, ap, ◌∙◌, arith}
 use Rattle.dy_syntax.specs.Files.{File}
 use Rattle.dy_syntax.specs.Rules.{Breaks, IsFirst}
 use Rattle.dy_parse.specs.declared.errors.LimitName.{LimitName}
 use Rattle.dy_parse.specs.Reading.{Reads, IsBadLine, IsOverLimit}
+use Rattle.dy_core.specs.Answers.{IsBadInput}
 use Rattle.dy_tool.specs.declared.protocols.InputFault.{InputFault}
 use Rattle.dy_tool.specs.declared.protocols.InputFault.TheVariants.{Syntax, Limit, Rule}
 use Rattle.dy_tool.specs.Protocols.{IsProtocol, HasFault, fault_text}
@@ -55,3 +56,9 @@ module _ (laws : ReadingLaws) (bytes : List ℕ) where
   -- and one text for it
   pub one_fault_text : (text other : List ℕ) → IsFaulty bytes text → IsFaulty bytes other → text ≡ other
   one_fault_text text other faulty also = faulty.2 ∙ ap fault_text (one_fault faulty.0 also.0 faulty.1 also.1) ∙ sym also.2
+
+  -- the bytes of a protocol open a Book
+  pub no_bad_input : (file : File) (line : ℕ) → IsProtocol bytes file → IsBadInput bytes line → ⊥
+  no_bad_input file line protocol (inl bad) = no_fault file (Syntax line) protocol bad
+  no_bad_input file line protocol (inr (inl over)) = no_fault file (Limit line over.0) protocol over.1
+  no_bad_input file line protocol (inr (inr wrong)) = no_fault file (Rule line wrong.1) protocol (wrong.0, wrong.2, wrong.3)

@@ -1,5 +1,5 @@
 -- A canonical text is read as the same file but for line numbers.
-use Rattle.std.proofs.Common.{◌≡◌, ℕ, zero, suc, ◌≤◌, ◌⊎◌, true, List, [], ◌∷◌, ◌++◌, length, refl, sym, inl, inr, arith}
+use Rattle.std.proofs.Common.{◌≡◌, ℕ, zero, suc, ◌≤◌, true, List, [], ◌∷◌, ◌++◌, length, refl, sym, inl, inr, arith}
 use Rattle.std.specs.Prelude.{slice_get}
 use Rattle.std.specs.Option.{option_to_list}
 use Rattle.std.specs.List.{list_all, flat_map}
@@ -17,7 +17,7 @@ use Rattle.dy_grammar.specs.Levels.{is_shallow}
 use Rattle.dy_grammar.specs.Files.{IsFile, with_end}
 use Rattle.dy_parse.specs.declared.errors.LimitName.{LimitName}
 use Rattle.dy_parse.specs.declared.errors.LimitName.TheVariants.{Word, Text, Nesting}
-use Rattle.dy_parse.specs.Limits.{Excess, breaks, lines_of_bytes, excess_by_kind, excess_in_token, excess_in_file, IsIn, FileBreaks}
+use Rattle.dy_parse.specs.Limits.{breaks, lines_of_bytes, excess_by_kind, excess_in_token, excess_in_file, FileBreaks}
 use Rattle.dy_parse.proofs.Depth.Depths.{in_left, in_right}
 use Rattle.dy_show.specs.Canonical.{canon}
 use Rattle.dy_show.specs.Readings.{fits_kind, is_short, ReadsAs, ReadsAgain}

@@ -1,10 +1,8 @@
 -- A file within the limits is short enough to be checked.
-use Rattle.std.proofs.Common.{◌≡◌, ℕ, zero, suc, ◌+◌, ◌<◌, ◌≤◌, List, [], ◌∷◌, ◌++◌, length, map, get_or, Option, Some, None, subst, sym, refl, ap, ◌∙◌, ◌⊎◌, inl, inr, lit≤, arith}
-use Rattle.std.specs.Prelude.{Contains}
+use Rattle.std.proofs.Common.{◌≡◌, ℕ, zero, suc, ◌+◌, ◌<◌, ◌≤◌, List, [], ◌∷◌, ◌++◌, length, map, get_or, Option, Some, None, subst, refl, ap, ◌∙◌, lit≤, arith}
 use Rattle.std.specs.List.{flat_map}
-use Rattle.std.specs.Option.{option_map_or, option_to_list}
+use Rattle.std.specs.Option.{option_map_or}
 use Rattle.std.proofs.lemmas.List.{length-append, length-map}
-use Rattle.std.proofs.lemmas.Option.{slice_get_cases}
 use Rattle.dy_label.specs.declared.words.TheConstants.{NAMES}
 use Rattle.dy_syntax.specs.Statements as s
 use Rattle.dy_syntax.specs.Statements.{Pattern, OnPart, Act, Statement}
@@ -13,7 +11,7 @@ use Rattle.dy_syntax.specs.Files.{Decl, File}
 use Rattle.dy_syntax.specs.Scopes.{pattern_names, act_pats, on_pats, handler_names}
 use Rattle.dy_parse.specs.declared.errors.LimitName.{LimitName}
 use Rattle.dy_parse.specs.declared.errors.LimitName.TheVariants.{Usages, Cases, Events, States, Handlers, Names, Fields, Partners}
-use Rattle.dy_parse.specs.Limits.{Excess, IsIn, most, breaks, counts, name_lines, names_of, patterns_of_on, patterns_of_act, counts_declared, excess_in_token, excess_in_decl, excess_in_plan, excess_in_file}
+use Rattle.dy_parse.specs.Limits.{Excess, most, counts, name_lines, names_of, patterns_of_on, patterns_of_act, counts_declared, excess_in_token, excess_in_decl, excess_in_plan, excess_in_file}
 use Rattle.dy_parse.specs.Reading.{Reads}
 use Rattle.dy_parse.proofs.Depth.Depths.{in_left, in_right}
 use Rattle.dy_tool.proofs.Within.{excess_at, IsWithin, few_lines}

@@ -3,4 +3,5 @@ pub mod Texts
 pub mod Protocols
 pub mod Showing
 pub mod Due
+pub mod Judging
 pub mod Answers

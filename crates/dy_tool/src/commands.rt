@@ -1,12 +1,11 @@
-ghost use Rattle.std.specs.Prelude.{◌≡◌, ◌≢◌, ◌+◌, ◌≤◌, ◌⊎◌, length, IfOk, IfSome};
-ghost use Rattle.std.specs.Io.KnownBytes.{Keeps};
-ghost use Rattle.dy_io.specs.Bytes.{CameAtMost};
-ghost use Rattle.dy_io.specs.Faults.{Rose};
-ghost use Rattle.dy_tool.specs.Answers.{Leaves, Says};
-ghost use Rattle.dy_tool.specs.Due.{words_of, check_words, AreRefused, IsNamed, IsDueBy, EachInterleavingIsSecure};
+ghost use Rattle.std.specs.Prelude.{◌≡◌, ◌≤◌, ◌↔◌, true, List, [], ◌∷◌, length, IfOk, IsTrue};
+ghost use Rattle.dy_tool.specs.Answers.{CarriesOut, Says};
+ghost use Rattle.dy_tool.specs.Due.{words_of, quiet_commands, tool_commands};
+ghost use Rattle.dy_tool.specs.Due.{IsNamed, IsDueBy, asks_for_typing, EachInterleavingIsSecure};
 
 use crate::answers::Answer;
-use crate::judging::judge;
+use crate::checking::check;
+use crate::running::run;
 use crate::showing::print_canonical;
 use crate::statuses::Status;
 use dy_io::{ReadError, Sink, Source, WriteError, read_all, write_all};
@@ -19,9 +18,10 @@ use std::alloc::Global;
 pub(crate) enum Command {
     Check,
     Show,
+    Run,
 }
 
-/// Carries out the command of these words, which are those after the program's name. `check` reads a
+/// Carries out the command of these words, which are those after the program's name: `check` or `show`. `check` reads a
 /// protocol file and writes the verdict on it; `show` writes its canonical text.
 ///
 /// The refusals come in this order: the words, a read fault or the length as the bytes come, the
@@ -32,35 +32,44 @@ pub fn quiet<S: Source, K: Sink>(
     source: &mut S,
     sink: &mut K,
 ) -> Status
-    // The status and the text are those that are due.
-    ensures leaves { Leaves (words_of words.now) (S.left source.old) (K.held sink.old) (K.held sink.new) result }
-
-    // Where `check` is Done, every interleaving of the bytes is secure.
-    ensures secure { words_of words.now ≡ check_words → result ≡ Status.Done →
-        IfSome (S.left source.old) EachInterleavingIsSecure }
-
-    // At most one byte past the limit is taken, and that one only where neither reading nor memory failed.
-    ensures taken { CameAtMost (MAX_SOURCE_BYTES + 1) (S.left source.old) (S.left source.new) }
-    ensures fault_within { result ≡ Status.ReadFault →
-        CameAtMost MAX_SOURCE_BYTES (S.left source.old) (S.left source.new) }
-    ensures memory_within { result ≡ Status.Memory →
-        CameAtMost MAX_SOURCE_BYTES (S.left source.old) (S.left source.new) }
-
-    // With refused words nothing is read, and memory does not run out.
-    ensures refused { AreRefused (words_of words.now) →
-        (result ≡ Status.Words) ⊎ (result ≡ Status.WriteFault) }
-    ensures unread { AreRefused (words_of words.now) →
-        Keeps (S.left source.old) (S.left source.new) × (S.faults source.new ≡ S.faults source.old) }
-
-    // A fault comes only where the count rose, and where it rose nothing else comes.
-    ensures read_fault { result ≡ Status.ReadFault → Rose (S.faults source.old) (S.faults source.new) }
-    ensures source_kept { result ≢ Status.ReadFault → S.faults source.new ≡ S.faults source.old }
-    ensures source_later { S.faults source.old ≤ S.faults source.new }
-    ensures write_fault { result ≡ Status.WriteFault → Rose (K.faults sink.old) (K.faults sink.new) }
-    ensures sink_kept { result ≢ Status.WriteFault → K.faults sink.new ≡ K.faults sink.old }
-    ensures sink_later { K.faults sink.old ≤ K.faults sink.new }
+    // The status and the text are those that are due, and where `check` is Done, every interleaving is secure.
+    ensures carried { CarriesOut quiet_commands (words_of words.now) (S.left source.old) (S.left source.new)
+        (K.held sink.old) (K.held sink.new) (S.faults source.old) (S.faults source.new)
+        (K.faults sink.old) (K.faults sink.new) result }
 {
-    let Some(command) = command_of(words) else {
+    carry_out(alloc, words, quiet_command(words), source, sink)
+}
+
+/// Carries out the command of these words, as `quiet` does, or `run`. That reads and checks a protocol file, runs its
+/// plan step by step in text order, and writes the trace.
+pub fn tool<S: Source, K: Sink>(
+    alloc: Global,
+    words: &[String],
+    source: &mut S,
+    sink: &mut K,
+) -> Status
+    // As with `quiet`, and where `run` is Done, every interleaving is secure too.
+    ensures carried { CarriesOut tool_commands (words_of words.now) (S.left source.old) (S.left source.new)
+        (K.held sink.old) (K.held sink.new) (S.faults source.old) (S.faults source.new)
+        (K.faults sink.old) (K.faults sink.new) result }
+{
+    carry_out(alloc, words, tool_command(words), source, sink)
+}
+
+/// Carries out a command, or refuses the words where they name none.
+fn carry_out<S: Source, K: Sink>(
+    alloc: Global,
+    words: &[String],
+    command: Option<Command>,
+    source: &mut S,
+    sink: &mut K,
+) -> Status
+    ensures carried { (commands : List Command) → IsNamed commands (words_of words.now) command →
+        CarriesOut commands (words_of words.now) (S.left source.old) (S.left source.new)
+        (K.held sink.old) (K.held sink.new) (S.faults source.old) (S.faults source.new)
+        (K.faults sink.old) (K.faults sink.new) result }
+{
+    let Some(command) = command else {
         return say(sink, Status::Words, b"bad words\n");
     };
     match read_all(alloc, source, MAX_SOURCE_BYTES) {
@@ -74,14 +83,37 @@ pub fn quiet<S: Source, K: Sink>(
     }
 }
 
-/// The command of these words, if they are one.
-fn command_of(words: &[String]) -> Option<Command>
-    ensures { IsNamed (words_of words.now) result }
+/// Whether the words are this one word.
+fn is_word(words: &[String], word: &str) -> bool
+    ensures { IsTrue result ↔ (words_of words.now ≡ word.now ∷ []) }
 {
     match words {
-        [word] if word.as_str() == "check" => Some(Command::Check),
-        [word] if word.as_str() == "show" => Some(Command::Show),
-        _ => None,
+        [only] => only.as_str() == word,
+        _ => false,
+    }
+}
+
+/// The command of `quiet` that has these words, if they are those of one.
+fn quiet_command(words: &[String]) -> Option<Command>
+    ensures { IsNamed quiet_commands (words_of words.now) result }
+{
+    if is_word(words, "check") {
+        Some(Command::Check)
+    } else if is_word(words, "show") {
+        Some(Command::Show)
+    } else {
+        None
+    }
+}
+
+/// The command of `tool` that has these words, if they are those of one.
+fn tool_command(words: &[String]) -> Option<Command>
+    ensures { IsNamed tool_commands (words_of words.now) result }
+{
+    if is_word(words, "run") {
+        Some(Command::Run)
+    } else {
+        quiet_command(words)
     }
 }
 
@@ -89,12 +121,13 @@ fn command_of(words: &[String]) -> Option<Command>
 fn answer(alloc: Global, command: Command, bytes: &[u8]) -> Result<Answer, Memory>
     requires { length bytes.now ≤ MAX_SOURCE_BYTES }
     ensures due { IfOk result (λ a. IsDueBy command bytes.now a.status a.text.items) }
-    ensures secure { IfOk result (λ a.
-        command ≡ Command.Check → a.status ≡ Status.Done → EachInterleavingIsSecure bytes.now) }
+    ensures secure { asks_for_typing command ≡ true →
+        IfOk result (λ a. a.status ≡ Status.Done → EachInterleavingIsSecure bytes.now) }
 {
     match command {
-        Command::Check => judge(alloc, bytes),
+        Command::Check => check(alloc, bytes),
         Command::Show => print_canonical(alloc, bytes),
+        Command::Run => run(alloc, bytes),
     }
 }
 

@@ -1,31 +1,35 @@
-ghost use Rattle.std.specs.Prelude.{◌≡◌, ℕ, ◌≤◌, List, length};
+ghost use Rattle.std.specs.Prelude.{◌≡◌, ℕ, ◌≤◌, true, List, length};
 ghost use Rattle.dy_lex.specs.declared.limits.TheConstants.{MAX_SOURCE_BYTES};
 ghost use Rattle.dy_syntax.specs.Files.{File};
 ghost use Rattle.dy_parse.specs.Reading.{Reads};
 ghost use Rattle.dy_show.specs.Canonical.{canon};
-ghost use Rattle.dy_tool.specs.Due.{IsDue, IsDueByCheck, EachInterleavingIsSecure};
+ghost use Rattle.dy_tool.specs.Due.{IsDue, IsDueBy, asks_for_typing, EachInterleavingIsSecure};
+ghost use Rattle.dy_tool.specs.declared.commands.Command.{Command};
 ghost use Rattle.dy_tool.specs.Showing.{IsTextOfFile, ReadsBack};
 ghost use Rattle.dy_tool.specs.declared.statuses.Status.{Status};
 
 use dy_parse::{one_file, one_parse, same_limits, trees_are_shallow};
+use dy_plan::one_serial_interleaving;
 use dy_show::{one_text, reads_again};
 use dy_sound::typed_is_secure;
 use dy_typing::one_refused_place;
 
 /// For words and input bytes at most one status and one text are due.
 pub fn one_answer()
-    ensures { (words : List (List ℕ)) (bytes : List ℕ) (status other : Status) (text other_text : List ℕ) →
-        IsDue words bytes status text → IsDue words bytes other other_text →
-        (status ≡ other) × (text ≡ other_text) }
+    ensures { (commands : List Command) (words : List (List ℕ)) (bytes : List ℕ) (status other : Status)
+        (text other_text : List ℕ) → IsDue commands words bytes status text →
+        IsDue commands words bytes other other_text → (status ≡ other) × (text ≡ other_text) }
 {
     one_file();
     one_parse();
     one_refused_place();
+    one_serial_interleaving();
 }
 
 /// Where the bytes are to be accepted, each of their interleavings is secure.
 pub fn accepted_files_are_secure()
-    ensures { (bytes text : List ℕ) → IsDueByCheck bytes Status.Done text → EachInterleavingIsSecure bytes }
+    ensures { (command : Command) (bytes text : List ℕ) → asks_for_typing command ≡ true →
+        IsDueBy command bytes Status.Done text → EachInterleavingIsSecure bytes }
 {
     one_file();
     typed_is_secure();

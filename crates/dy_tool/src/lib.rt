@@ -2,14 +2,16 @@
 #![tactic(auto)]
 
 mod answers;
+mod checking;
 mod commands;
 mod judging;
 mod laws;
 mod protocols;
+mod running;
 mod showing;
 mod statuses;
 
-pub use commands::quiet;
+pub use commands::{quiet, tool};
 pub use laws::{accepted_files_are_secure, one_answer, shown_is_canonical, shown_reads_back};
 pub use statuses::Status;
 

@@ -7,6 +7,7 @@ use std::alloc::{AllocError, Global};
 use std::process::Abort;
 use std::test::*;
 
+mod plans;
 mod protocols;
 mod rules;
 mod typing;
@@ -90,7 +91,7 @@ fn carry_out(
         piece,
         vec![in alloc; outside.failing_write]?,
     );
-    let status = quiet(alloc, &owned, &mut source, &mut sink);
+    let status = tool(alloc, &owned, &mut source, &mut sink);
     Ok(Outcome {
         status,
         written: sink.held.clone()?,
@@ -200,9 +201,11 @@ fn what_is_no_protocol_is_refused_at_its_line(rt: HostRuntime) -> Result<(), Fai
     for (input, fault) in cases {
         let text = format!(in rt.alloc(); "line {fault}\n")?;
         assert_answers(&rt, input.as_bytes(), Status::Input, text.as_bytes())?;
-        let got = carry_out(rt.alloc(), &["show"], input.as_bytes(), KIND)?;
-        assert_eq!(rt; got.status, Status::Input);
-        assert_eq!(rt; got.written.as_slice(), text.as_bytes());
+        for word in ["show", "run"] {
+            let got = carry_out(rt.alloc(), &[word], input.as_bytes(), KIND)?;
+            assert_eq!(rt; got.status, Status::Input);
+            assert_eq!(rt; got.written.as_slice(), text.as_bytes());
+        }
     }
     Ok(())
 }
@@ -280,8 +283,10 @@ fn one_byte_past_the_limit_is_too_long(rt: HostRuntime) -> Result<(), Fail> {
 
 #[test]
 fn refused_words_read_nothing(rt: HostRuntime) -> Result<(), Fail> {
-    let lists: [&[&str]; 8] = [
+    let lists: [&[&str]; 10] = [
         &[],
+        &["run", "check"],
+        &["Run"],
         &["show", "show"],
         &["Show"],
         &["check", "x"],

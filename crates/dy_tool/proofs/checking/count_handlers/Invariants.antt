@@ -1,7 +1,7 @@
 use Rattle.std.proofs.Common.{◌≡◌, ◌+◌, ◌≤◌, map, drop, length}
 use Rattle.dy_syntax.specs.Meaning.{decl_of}
 use Rattle.dy_cases.specs.DeclaredParts.{handlers_in}
-use Rattle.dy_tool.proofs.judging.count_handlers.Given as goal
+use Rattle.dy_tool.proofs.checking.count_handlers.Given as goal
 
 -- the handlers so far and those of the rest are all
 abbrev pub invariant-loop-decl : goal.invariant-loop-decl
