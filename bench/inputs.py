@@ -128,9 +128,14 @@ def peak_mib(command, path):
     return peak / 1024
 
 
+def build():
+    """Builds the program, if need be."""
+    subprocess.run([TOP / "laskfort", "check"], stdin=subprocess.DEVNULL, stdout=subprocess.DEVNULL)
+
+
 def compare(word, other, rounds):
     """Prints, for each input, the time and peak memory of the program and of the other command."""
-    subprocess.run([TOP / "laskfort", "check"], stdin=subprocess.DEVNULL, stdout=subprocess.DEVNULL)
+    build()
     for name, make in INPUTS.items():
         data = make().encode()
         assert len(data) <= SIZE, name
