@@ -1,0 +1,14 @@
+pub mod Derivable
+pub mod Facts
+pub mod KnowledgeMeaning
+pub mod MirrorGiven
+pub mod MirrorGivenRules
+pub mod MirrorKnowledge
+pub mod MirrorNonces
+pub mod MirrorRecipes
+pub mod MirrorRules
+pub mod MirrorSteps
+pub mod MirrorTerms
+pub mod Nodes
+pub mod Rules
+pub mod Saturation
