@@ -1,10 +1,9 @@
 -- The facts that follow are saturated, and all that the trace gives follows.
-use Rattle.std.proofs.Common.{◌≡◌, ℕ, zero, suc, ◌+◌, ◌<◌, ◌==◌, ◌&&◌, ◌⊎◌, Bool, true, false, List, [], ◌∷◌, ◌++◌, Option, Some, None, inl, inr, refl, sym, subst, arith, length, map, ap, ◌∙◌}
-use Rattle.std.specs.Option.{option_map}
-use Rattle.std.specs.List.{slice_get, slice_index_or, Contains, list_any, cons_option}
+use Rattle.std.proofs.Common.{◌≡◌, ℕ, zero, suc, ◌+◌, ◌==◌, ◌&&◌, ◌⊎◌, true, List, [], ◌∷◌, Some, None, inl, inr, refl, sym, subst, arith, length, map, ap, ◌∙◌}
+use Rattle.std.specs.List.{slice_get, Contains, cons_option}
 use Rattle.std.specs.Str.{bytes_eq}
 use Rattle.std.proofs.lemmas.Bool.{and_parts, eqb-true}
-use Rattle.std.proofs.lemmas.Option.{slice_get-map, get_or_from_slice_get, slice_get-get_or, slice_get_within}
+use Rattle.std.proofs.lemmas.Option.{get_or_from_slice_get, slice_get-get_or}
 use Rattle.std.proofs.lemmas.Slice.Eq.{bytes_eq-Decides}
 use Rattle.std.proofs.lemmas.List.Folds.{Any-from_list_any}
 use Rattle.dy_term.specs.Terms as terms
@@ -22,7 +21,7 @@ use Rattle.dy_derive.specs.declared.nodes.Node.TheVariants as code
 use Rattle.dy_derive.specs.declared.reasons.Reason.{Reason}
 use Rattle.dy_derive.specs.declared.reasons.Reason.TheVariants as reasons
 use Rattle.dy_derive.specs.Facts.{Fact, Derived, Corrupted, Inference, inferences_of_term, inferences_of_fields, inferences_of_entry, given_with}
-use Rattle.dy_derive.specs.Nodes.{term_in, term_at, numbers_of, fact_of, IsTermAt, IsTable}
+use Rattle.dy_derive.specs.Nodes.{term_in, term_at, numbers_of, fact_of, IsTable}
 use Rattle.dy_derive.specs.Rules.{HasRule, HasInferences}
 use Rattle.dy_derive.specs.Saturation.{IsMadeOfParts, IsSaturated, IsGivenAll, IsPart, IsHad}
 

@@ -1,5 +1,5 @@
 -- What the fields of a state give, one after another.
-use Rattle.std.proofs.Common.{◌≡◌, ℕ, zero, suc, ◌+◌, ◌<◌, ◌≤◌, List, [], ◌∷◌, ◌++◌, length, map, Some, refl, ap, sym, ◌∙◌, subst, arith, length-append}
+use Rattle.std.proofs.Common.{◌≡◌, ℕ, zero, suc, ◌+◌, ◌<◌, ◌≤◌, List, [], ◌∷◌, ◌++◌, length, Some, refl, ap, sym, ◌∙◌, subst, arith, length-append}
 use Rattle.std.specs.List.{slice_get, All}
 use Rattle.std.specs.Prelude.{Result, Ok, Err, IfOk}
 use Rattle.std.proofs.lemmas.List.Elements.{All-nil, All-cons}
@@ -11,7 +11,7 @@ use Rattle.dy_derive.specs.declared.deductions.Deductions.{Deductions}
 use Rattle.dy_derive.specs.declared.given.Given.{Given}
 use Rattle.dy_derive.specs.declared.reasons.Reason.{Reason}
 use Rattle.dy_derive.specs.declared.reasons.Reason.TheVariants as reasons
-use Rattle.dy_derive.specs.Facts.{Fact, Inference, Derived, inferences_of_fields}
+use Rattle.dy_derive.specs.Facts.{Fact, Inference, inferences_of_fields}
 use Rattle.dy_derive.specs.Nodes.{IsTermAt}
 use Rattle.dy_derive.specs.MirrorRules.{StandForAll}
 use Rattle.dy_derive.specs.MirrorGiven.{Gives}

@@ -1,5 +1,5 @@
 -- What an entry gives, over deductions that grow.
-use Rattle.std.proofs.Common.{◌≡◌, ℕ, zero, suc, ◌+◌, ◌<◌, ◌≤◌, List, [], ◌∷◌, ◌++◌, length, map, Some, refl, ap, sym, ◌∙◌, subst, arith, append_assoc}
+use Rattle.std.proofs.Common.{◌≡◌, ℕ, suc, ◌+◌, List, [], ◌∷◌, ◌++◌, length, Some, refl, ap, sym, ◌∙◌, subst, arith}
 use Rattle.std.specs.List.{slice_get}
 use Rattle.std.specs.Prelude.{Result, Ok, Err, IfOk}
 use Rattle.dy_term.specs.Terms.{Term}
@@ -10,11 +10,10 @@ use Rattle.dy_derive.specs.declared.given.Given.{Given}
 use Rattle.dy_derive.specs.declared.nodes.Node.{Node}
 use Rattle.dy_derive.specs.declared.reasons.Reason.{Reason}
 use Rattle.dy_derive.specs.declared.reasons.Reason.TheVariants as reasons
-use Rattle.dy_derive.specs.Facts.{Fact, Derived, Corrupted, Inference, given, given_with, inferences_of_fields}
+use Rattle.dy_derive.specs.Facts.{Fact, Derived, Corrupted, given, inferences_of_fields}
 use Rattle.dy_derive.specs.Nodes.{numbers_of, fact_of, IsSmall, HasParts}
-use Rattle.dy_derive.specs.Rules.{StandsFor}
 use Rattle.dy_derive.specs.MirrorRules.{StandForAll}
-use Rattle.dy_derive.specs.MirrorGivenRules.{outright, field_rule, field_rules, places_of}
+use Rattle.dy_derive.specs.MirrorGivenRules.{outright, field_rules, places_of}
 use Rattle.dy_derive.specs.MirrorGiven.{Gives}
 use Rattle.dy_derive.specs.MirrorKnowledge.{Interns, Grows, AreAt}
 use Rattle.dy_derive.proofs.Tables.{fact_of-longer}

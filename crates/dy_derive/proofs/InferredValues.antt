@@ -1,9 +1,9 @@
 -- The move of an inference has as its value the term that is concluded, where the premises have their values. The term
 -- is derived, where theirs are.
-use Rattle.std.proofs.Common.{◌≡◌, ℕ, zero, suc, ◌+◌, ◌-◌, ◌<◌, ◌==◌, ◌&&◌, ◌++◌, Bool, true, false, List, [], ◌∷◌, Option, Some, None, if◌then◌else◌, inl, inr, refl, sym, subst, arith, length, ap, ◌∙◌}
+use Rattle.std.proofs.Common.{◌≡◌, ℕ, zero, suc, ◌+◌, ◌-◌, ◌==◌, ◌&&◌, ◌++◌, Bool, true, false, List, [], ◌∷◌, Option, Some, None, if◌then◌else◌, inl, inr, refl, sym, subst, arith, length, ap, ◌∙◌}
 use Rattle.std.specs.Option.{option_map, option_and_then, option_map_or}
 use Rattle.std.proofs.lemmas.List.{length-append, append_assoc}
-use Rattle.std.specs.List.{slice_get, slice_index_or, Contains, All, list_any, filter_map, cons_option}
+use Rattle.std.specs.List.{slice_get, Contains, All, cons_option}
 use Rattle.std.specs.Str.{bytes_eq}
 use Rattle.std.proofs.lemmas.List.Elements.{All-nil, All-cons}
 use Rattle.std.proofs.lemmas.Bool.{and_from, eq-eqb, ne_eqb}
@@ -17,7 +17,7 @@ use Rattle.dy_term.specs.Sameness.{is_same}
 use Rattle.dy_term.proofs.Samenesses.{is_same-refl}
 use Rattle.dy_flat.specs.Parts as parts
 use Rattle.dy_flat.specs.Openings.{penc_message, aead_message, signed_message}
-use Rattle.dy_label.specs.Labels.{Place, Principal, Session, Version, covers, is_covered_by}
+use Rattle.dy_label.specs.Labels.{Place, Principal, Session, Version, covers}
 use Rattle.dy_entry.specs.Attacker as by
 use Rattle.dy_entry.specs.Attacker.{Derives}
 use Rattle.dy_entry.specs.Entries as entries
@@ -31,7 +31,7 @@ use Rattle.dy_derive.specs.declared.reasons.Reason.TheVariants as reasons
 use Rattle.dy_derive.specs.Facts.{Fact, Derived, Corrupted, Inference, inferences_of_term, inferences_of_fact, inferences_of_fields, inferences_of_entry, decryptions, given_with}
 use Rattle.dy_derive.specs.Nodes.{term_in}
 use Rattle.dy_derive.specs.Rules.{IsInferenceOf}
-use Rattle.dy_derive.specs.MirrorRecipes.{move_for, built_move}
+use Rattle.dy_derive.specs.MirrorRecipes.{move_for}
 
 -- ---- what operations make of values that are there
 

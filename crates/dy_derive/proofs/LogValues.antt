@@ -1,5 +1,5 @@
 -- The moves of a log have the terms of its facts as their values.
-use Rattle.std.proofs.Common.{◌≡◌, ℕ, zero, suc, ◌+◌, ◌-◌, ◌<◌, ◌≤◌, ◌==◌, nat_le, nat_lt, cond, Bool, true, false, List, [], ◌∷◌, ◌++◌, Option, Some, None, if◌then◌else◌, inl, inr, refl, sym, subst, arith, length, map, take, get_or, ap, ◌∙◌}
+use Rattle.std.proofs.Common.{◌≡◌, ℕ, zero, suc, ◌+◌, ◌<◌, ◌≤◌, ◌==◌, nat_le, nat_lt, cond, Bool, true, false, List, [], ◌∷◌, ◌++◌, Some, None, if◌then◌else◌, inl, inr, refl, sym, subst, arith, length, map, take, get_or, ap, ◌∙◌}
 use Rattle.std.specs.Option.{option_map, option_and_then, option_map_or}
 use Rattle.std.specs.List.{slice_get, slice_index, position_or_len}
 use Rattle.std.proofs.lemmas.Bool.{le-leb, lt-ltb, eqb-true, eq-eqb, ne_eqb}
@@ -15,7 +15,7 @@ use Rattle.dy_entry.specs.Entries.{Entry}
 use Rattle.dy_entry.proofs.Traces.{slice_get_split}
 use Rattle.dy_recipe.specs.declared.moves.Move as code
 use Rattle.dy_recipe.specs.Meaning.{move_of}
-use Rattle.dy_recipe.specs.Moves.{Move, Leaves}
+use Rattle.dy_recipe.specs.Moves.{Move}
 use Rattle.dy_recipe.specs.Values.{value_at, made_by, if_small, move_value}
 use Rattle.dy_traces.specs.Given.{given_by}
 use Rattle.dy_chains.specs.declared.rules.Rule.{Rule}
@@ -26,12 +26,12 @@ use Rattle.dy_chains.specs.Rules.{premises_of}
 use Rattle.dy_chains.specs.Logs.{facts_of, place_of, IsAt, IsLoggedBefore, IsLog}
 use Rattle.dy_derive.specs.declared.nodes.Node.{Node}
 use Rattle.dy_derive.specs.declared.reasons.Reason.{Reason}
-use Rattle.dy_derive.specs.Facts.{Fact, Derived, Corrupted, Inference}
+use Rattle.dy_derive.specs.Facts.{Fact, Derived, Corrupted}
 use Rattle.dy_derive.specs.Nodes.{term_in, term_at, fact_of, IsTable}
 use Rattle.dy_derive.specs.Rules.{IsSoundRule, HasInferences}
 use Rattle.dy_derive.specs.Saturation.{IsHad}
-use Rattle.dy_derive.specs.MirrorRecipes.{number_in, premise_number, move_for, step_move, IsStepMove, AreLogMoves, HaveValues, log_values}
-use Rattle.dy_derive.proofs.InferredValues.{NamesValues, IsSo, AreSo, IsFine, inference_fine, value_after}
+use Rattle.dy_derive.specs.MirrorRecipes.{number_in, premise_number, step_move, IsStepMove, AreLogMoves, HaveValues, log_values}
+use Rattle.dy_derive.proofs.InferredValues.{NamesValues, IsSo, AreSo, inference_fine, value_after}
 use Rattle.dy_derive.proofs.FactsSaturated.{also_there}
 
 inside : {A : Type 0} (a b : A) → Some a ≡ Some b → a ≡ b

@@ -1,19 +1,17 @@
 -- The rules of a node stand for the inferences of what it says.
-use Rattle.std.proofs.Common.{◌≡◌, ℕ, ◌+◌, ◌<◌, List, [], ◌∷◌, ◌++◌, length, map, Option, Some, None, inl, inr, refl, ap, sym, ◌∙◌, subst, arith}
+use Rattle.std.proofs.Common.{◌≡◌, ℕ, ◌<◌, List, [], ◌∷◌, ◌++◌, length, Option, Some, None, inl, inr, refl, ap, sym, ◌∙◌, subst, arith}
 use Rattle.std.specs.List.{slice_get}
 use Rattle.std.specs.Option.{option_and_then}
 use Rattle.std.proofs.lemmas.Option.{get_or_from_slice_get, slice_get_cases}
 use Rattle.dy_entry.proofs.Traces.{slice_get-prefix}
 use Rattle.dy_term.specs.Terms as terms
-use Rattle.dy_chains.specs.declared.rules.Rule.{Rule}
 use Rattle.dy_chains.specs.declared.rules.Premises.TheVariants as premises
-use Rattle.dy_chains.specs.Rules.{premises_of}
 use Rattle.dy_derive.specs.declared.nodes.Node.{Node}
 use Rattle.dy_derive.specs.declared.nodes.Node.TheVariants as code
 use Rattle.dy_derive.specs.declared.reasons.Reason.{Reason}
 use Rattle.dy_derive.specs.declared.reasons.Reason.TheVariants as reasons
-use Rattle.dy_derive.specs.Facts.{Fact, Derived, Inference, inferences_of_fact, decryptions, build}
-use Rattle.dy_derive.specs.Nodes.{numbers_of, term_in, term_at, fact_of, IsTermAt, HasParts, IsTable}
+use Rattle.dy_derive.specs.Facts.{Fact, Derived, inferences_of_fact, decryptions}
+use Rattle.dy_derive.specs.Nodes.{term_in, term_at, fact_of, IsTermAt, HasParts, IsTable}
 use Rattle.dy_derive.specs.Rules.{StandsFor}
 use Rattle.dy_derive.specs.MirrorRules.{rules_of, rules_in, reasons_in, decryption_key, key_of_public, decrypted, StandForAll}
 use Rattle.dy_derive.proofs.Tables.{term_at_is}

@@ -1,12 +1,12 @@
 -- Nodes in order, and the numbers of which rules speak.
-use Rattle.std.proofs.Common.{◌≡◌, ℕ, zero, suc, ◌+◌, ◌<◌, List, [], ◌∷◌, ◌++◌, length, map, Option, Some, None, inl, inr, refl, ap, sym, ◌∙◌, subst, arith, length-append}
+use Rattle.std.proofs.Common.{◌≡◌, ℕ, zero, suc, ◌+◌, ◌<◌, List, [], ◌∷◌, ◌++◌, length, Option, Some, None, inl, inr, refl, ap, sym, ◌∙◌, subst, arith}
 use Rattle.std.specs.List.{slice_get, All}
 use Rattle.std.proofs.lemmas.List.Elements.{All-nil, All-cons}
 use Rattle.std.proofs.lemmas.Option.{slice_get_cases}
 use Rattle.std.specs.Option.{option_and_then}
 use Rattle.dy_chains.specs.declared.rules.Rule.{Rule}
 use Rattle.dy_chains.specs.declared.rules.Premises.TheVariants as premises
-use Rattle.dy_chains.specs.Rules.{IsBelow, premises_of}
+use Rattle.dy_chains.specs.Rules.{IsBelow}
 use Rattle.dy_entry.proofs.Traces.{slice_get_split}
 use Rattle.dy_derive.specs.declared.nodes.Node.{Node}
 use Rattle.dy_derive.specs.declared.nodes.Node.TheVariants as code

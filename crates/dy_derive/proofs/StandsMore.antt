@@ -17,7 +17,6 @@ use Rattle.dy_derive.specs.declared.deductions.Deductions.{Deductions}
 use Rattle.dy_derive.specs.declared.given.Given.{Given}
 use Rattle.dy_derive.specs.declared.knowledge.Knowledge.{Knowledge}
 use Rattle.dy_derive.specs.declared.nodes.Node.{Node}
-use Rattle.dy_derive.specs.declared.reasons.Reason.{Reason}
 use Rattle.dy_derive.specs.Facts.{Fact, inferences_of_entry}
 use Rattle.dy_derive.specs.Nodes.{IsTermAt}
 use Rattle.dy_derive.specs.Saturation.{IsHad}

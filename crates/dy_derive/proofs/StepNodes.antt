@@ -1,5 +1,5 @@
 -- The node of a step of a walk says the term of the step.
-use Rattle.std.proofs.Common.{◌≡◌, ℕ, zero, suc, ◌+◌, ◌<◌, ◌≤◌, ◌⊎◌, inl, inr, List, [], ◌∷◌, ◌++◌, length, map, Option, Some, None, refl, ap, sym, ◌∙◌, subst, arith}
+use Rattle.std.proofs.Common.{◌≡◌, ℕ, zero, suc, ◌<◌, inl, inr, List, [], ◌∷◌, length, map, Option, Some, None, refl, ap, sym, ◌∙◌, subst, arith}
 use Rattle.std.specs.List.{slice_get, All}
 use Rattle.std.specs.Prelude.{slice_index}
 use Rattle.std.specs.Option.{option_map}
@@ -8,7 +8,6 @@ use Rattle.dy_term.specs.Terms as trees
 use Rattle.dy_term.specs.Terms.{Term}
 use Rattle.dy_flat.specs.Walks as walks
 use Rattle.dy_flat.specs.Walks.{Step, of_two, of_three, term_of_step}
-use Rattle.dy_derive.specs.declared.nodes.Node.{Node}
 use Rattle.dy_derive.specs.Facts.{Fact, Derived}
 use Rattle.dy_derive.specs.Nodes.{numbers_of, term_at, fact_of, IsTermAt, HasParts}
 use Rattle.dy_derive.specs.MirrorKnowledge.{AreTermsAt}

@@ -1,18 +1,18 @@
 -- The nodes of the steps of a walk, interned one after another.
-use Rattle.std.proofs.Common.{◌≡◌, ℕ, zero, suc, ◌+◌, ◌<◌, ◌≤◌, ◌⊎◌, inl, inr, List, [], ◌∷◌, ◌++◌, length, map, Option, Some, None, refl, ap, sym, ◌∙◌, subst, arith, length-append, append_assoc}
+use Rattle.std.proofs.Common.{◌≡◌, ℕ, zero, suc, ◌<◌, ◌≤◌, inl, inr, List, [], ◌∷◌, ◌++◌, length, map, Option, Some, None, refl, ap, sym, ◌∙◌, subst, arith}
 use Rattle.std.specs.List.{slice_get, All}
 use Rattle.std.specs.Option.{option_and_then}
 use Rattle.std.proofs.lemmas.List.{map-append}
 use Rattle.dy_term.specs.Terms as trees
 use Rattle.dy_term.specs.Terms.{Term, size}
 use Rattle.dy_term.specs.declared.limits.TheConstants.{MAX_NODES}
-use Rattle.dy_flat.specs.Walks.{Step, term_of_step, terms_by_steps, walk_of, steps_of}
+use Rattle.dy_flat.specs.Walks.{Step, term_of_step, terms_by_steps, walk_of}
 use Rattle.dy_entry.proofs.Traces.{slice_get-prefix, slice_get-end}
 use Rattle.dy_derive.specs.declared.deductions.Deductions.{Deductions}
 use Rattle.dy_derive.specs.Facts.{Fact, Derived}
-use Rattle.dy_derive.specs.Nodes.{fact_of, IsSmall}
+use Rattle.dy_derive.specs.Nodes.{IsSmall}
 use Rattle.dy_derive.specs.MirrorKnowledge.{Interns, IsUnchanged, Grows, AreAny, AreAt, AreTermsAt}
-use Rattle.dy_derive.specs.MirrorSteps.{node_of_step, IsNext, AddsTerm, KeepsTerms}
+use Rattle.dy_derive.specs.MirrorSteps.{node_of_step, IsNext}
 use Rattle.dy_derive.proofs.AddedInferences.{in_either, premises_longer}
 use Rattle.dy_derive.proofs.GrownDeductions.{grows_interned, grows_unchanged}
 use Rattle.dy_derive.proofs.StepNodes.{step_parts, step_says}

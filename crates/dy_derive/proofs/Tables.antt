@@ -1,15 +1,14 @@
 -- A table with one more node.
-use Rattle.std.proofs.Common.{◌≡◌, ℕ, zero, suc, ◌+◌, ◌<◌, ◌≤◌, List, [], ◌∷◌, ◌++◌, length, Some, ◌⊎◌, inl, inr, refl, ap, sym, ◌∙◌, subst, arith, length-append}
+use Rattle.std.proofs.Common.{◌≡◌, ℕ, ◌<◌, ◌≤◌, List, [], ◌∷◌, ◌++◌, length, Some, inl, inr, refl, ap, sym, ◌∙◌, subst, arith, length-append}
 use Rattle.std.specs.List.{slice_get}
-use Rattle.std.specs.Prelude.{slice_index_or}
 use Rattle.std.proofs.lemmas.Option.{get_or_from_slice_get, slice_get_within, slice_get_cases}
 use Rattle.dy_term.specs.Terms as terms
 use Rattle.dy_term.specs.Terms.{Term}
 use Rattle.dy_entry.proofs.Traces.{slice_get-prefix, slice_get-end, slice_get_split}
 use Rattle.dy_derive.specs.declared.nodes.Node.{Node}
 use Rattle.dy_derive.specs.declared.nodes.Node.TheVariants as code
-use Rattle.dy_derive.specs.Facts.{Fact, Derived, Corrupted}
-use Rattle.dy_derive.specs.Nodes.{numbers_of, term_in, term_at, fact_of, IsSmall, IsTermAt, HasParts, IsTable}
+use Rattle.dy_derive.specs.Facts.{Fact, Derived}
+use Rattle.dy_derive.specs.Nodes.{term_in, term_at, fact_of, IsSmall, IsTermAt, HasParts, IsTable}
 
 -- each number is of one fact
 abbrev pub Once : List Fact → Type 0

@@ -1,31 +1,29 @@
 -- What is found of a term, where its parts were found.
-use Rattle.std.proofs.Common.{◌≡◌, ℕ, zero, suc, ◌+◌, ◌-◌, ◌<◌, ◌≤◌, ◌==◌, ◌⊎◌, Bool, true, false, List, [], ◌∷◌, ◌++◌, Option, Some, None, if◌then◌else◌, inl, inr, refl, sym, subst, arith, length, take, ap, ◌∙◌}
-use Rattle.std.specs.Option.{option_map, option_and_then}
+use Rattle.std.proofs.Common.{◌≡◌, ℕ, zero, suc, ◌+◌, ◌-◌, ◌<◌, ◌≤◌, ◌==◌, ◌⊎◌, Bool, true, false, List, [], ◌∷◌, ◌++◌, Option, Some, None, if◌then◌else◌, inl, inr, refl, sym, arith, length, take, ap, ◌∙◌}
+use Rattle.std.specs.Option.{option_map}
 use Rattle.std.specs.List.{slice_get}
 use Rattle.std.proofs.lemmas.Option.{slice_get-map, slice_get_within}
-use Rattle.std.proofs.lemmas.List.{append_assoc, length-append, append-nil}
+use Rattle.std.proofs.lemmas.List.{length-append}
 use Rattle.dy_term.specs.Terms as terms
 use Rattle.dy_term.specs.Terms.{Term, size}
-use Rattle.dy_term.specs.declared.limits.TheConstants.{MAX_NODES}
 use Rattle.dy_flat.specs.Parts.{parts_of}
 use Rattle.dy_entry.specs.Entries.{Entry}
 use Rattle.dy_entry.proofs.Traces.{slice_get-prefix, slice_get-end, slice_get_split}
 use Rattle.dy_recipe.specs.Moves as moves
 use Rattle.dy_recipe.specs.Moves.{Move, Leaves}
-use Rattle.dy_recipe.specs.Values as values
-use Rattle.dy_recipe.specs.Values.{value_at, made_by, if_small, move_value}
+use Rattle.dy_recipe.specs.Values.{value_at, made_by, move_value}
 use Rattle.dy_traces.specs.Given.{given_by}
 use Rattle.dy_chains.specs.declared.rules.Rule.{Rule}
 use Rattle.dy_chains.specs.declared.logs.Step.{Step}
-use Rattle.dy_chains.specs.Logs.{place_of, IsAt, IsLogged, IsLog}
+use Rattle.dy_chains.specs.Logs.{place_of, IsLog}
 use Rattle.dy_derive.specs.declared.term_moves.Found.{Found}
-use Rattle.dy_derive.specs.Facts.{Fact, Derived}
+use Rattle.dy_derive.specs.Facts.{Fact}
 use Rattle.dy_derive.specs.Nodes.{term_at, IsTermAt}
-use Rattle.dy_derive.specs.Saturation.{Built, IsPart, IsHad}
+use Rattle.dy_derive.specs.Saturation.{Built, IsHad}
 use Rattle.dy_derive.specs.MirrorRecipes.{HaveValues, log_values}
-use Rattle.dy_derive.specs.MirrorTerms.{of_two, of_three, move_over, log_number, HasNumber, HasMove, HaveMoves, IsFound, AreFound, HaveLogValues}
+use Rattle.dy_derive.specs.MirrorTerms.{of_two, of_three, move_over, log_number, HasNumber, HasMove, HaveMoves, IsFound}
 use Rattle.dy_derive.proofs.InferredValues.{one_of, two_of, three_of, value_after}
-use Rattle.dy_derive.proofs.LogValues.{place_is, stands_at, small_stays, step_at}
+use Rattle.dy_derive.proofs.LogValues.{place_is, stands_at, step_at}
 use Rattle.dy_derive.proofs.TermNumbers.{term_found}
 
 inside : {A : Type 0} (a b : A) → Some a ≡ Some b → a ≡ b

@@ -1,5 +1,5 @@
 -- The number of a term is that of the node over the numbers of its parts.
-use Rattle.std.proofs.Common.{◌≡◌, ℕ, zero, suc, ◌<◌, List, [], ◌∷◌, Option, Some, None, refl, sym, subst, ap, ◌∙◌}
+use Rattle.std.proofs.Common.{◌≡◌, ℕ, List, [], ◌∷◌, Option, Some, None, refl, sym, subst, ap, ◌∙◌}
 use Rattle.std.specs.Option.{option_map, IfSome, IfNone}
 use Rattle.std.specs.List.{slice_get}
 use Rattle.std.proofs.lemmas.Option.{get_or_from_slice_get}
@@ -8,7 +8,7 @@ use Rattle.dy_term.specs.Terms.{Term}
 use Rattle.dy_flat.specs.Parts.{parts_of}
 use Rattle.dy_derive.specs.declared.nodes.Node.{Node}
 use Rattle.dy_derive.specs.declared.nodes.Node.TheVariants as code
-use Rattle.dy_derive.specs.Facts.{Fact, Derived, Corrupted}
+use Rattle.dy_derive.specs.Facts.{Fact, Derived}
 use Rattle.dy_derive.specs.Nodes.{term_in, term_at, numbers_of, fact_of, IsTermAt, IsTable}
 use Rattle.dy_derive.specs.Saturation.{IsPart}
 use Rattle.dy_derive.specs.MirrorTerms.{of_two, of_three, node_over, HasNumber, HaveNumbers}

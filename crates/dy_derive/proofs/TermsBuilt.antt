@@ -1,5 +1,5 @@
 -- What is found of a term and its parts, and the moves that are added.
-use Rattle.std.proofs.Common.{◌≡◌, ℕ, ◌+◌, ◌<◌, ◌≤◌, List, [], ◌∷◌, ◌++◌, Option, Some, None, refl, sym, subst, arith, length, ap, ◌∙◌}
+use Rattle.std.proofs.Common.{◌≡◌, ℕ, ◌+◌, ◌≤◌, List, [], ◌∷◌, ◌++◌, Option, Some, None, refl, sym, subst, arith, length, ap, ◌∙◌}
 use Rattle.std.specs.Option.{option_and_then}
 use Rattle.std.specs.List.{slice_get}
 use Rattle.std.proofs.lemmas.List.{append_assoc, append-nil}
@@ -10,13 +10,13 @@ use Rattle.dy_flat.proofs.PartSizes.{part_smaller}
 use Rattle.dy_entry.specs.Entries.{Entry}
 use Rattle.dy_entry.proofs.Traces.{slice_get-end}
 use Rattle.dy_recipe.specs.Moves.{Move}
-use Rattle.dy_recipe.specs.Values.{value_at, made_by, if_small, move_value}
+use Rattle.dy_recipe.specs.Values.{value_at, if_small, move_value}
 use Rattle.dy_traces.specs.Given.{given_by}
 use Rattle.dy_chains.specs.declared.logs.Step.{Step}
 use Rattle.dy_derive.specs.declared.deductions.Deductions.{Deductions}
 use Rattle.dy_derive.specs.declared.term_moves.Found.{Found}
 use Rattle.dy_derive.specs.Facts.{Fact, Derived}
-use Rattle.dy_derive.specs.Nodes.{IsTermAt, IsTable}
+use Rattle.dy_derive.specs.Nodes.{IsTable}
 use Rattle.dy_derive.specs.Saturation.{IsHad}
 use Rattle.dy_derive.specs.MirrorRecipes.{log_values}
 use Rattle.dy_derive.specs.MirrorTerms.{move_over, log_number, HasNumber, HasMove, HaveNumbers, HaveMoves, IsAdded, IsFound, AreFound, HaveLogValues, IsBuilt, Builds, Joins}

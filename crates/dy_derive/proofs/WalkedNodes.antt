@@ -1,5 +1,5 @@
 -- The nodes of a whole walk, interned one after another.
-use Rattle.std.proofs.Common.{◌≡◌, ℕ, zero, suc, ◌+◌, ◌-◌, ◌<◌, ◌≤◌, List, [], ◌∷◌, ◌++◌, length, Some, None, inl, inr, refl, ap, sym, ◌∙◌, subst, arith, length-append}
+use Rattle.std.proofs.Common.{◌≡◌, ℕ, ◌+◌, ◌-◌, ◌<◌, ◌≤◌, List, [], ◌∷◌, ◌++◌, length, Some, None, inl, inr, refl, ap, sym, ◌∙◌, subst, arith, length-append}
 use Rattle.std.specs.List.{slice_get, All}
 use Rattle.std.specs.Prelude.{slice_index}
 use Rattle.std.proofs.lemmas.List.Elements.{All-nil}
@@ -10,7 +10,6 @@ use Rattle.dy_flat.specs.Walks.{Step, terms_by_steps, walk_of, steps_of}
 use Rattle.dy_flat.proofs.WalkedTerms.{all_terms, ends}
 use Rattle.dy_entry.proofs.Traces.{slice_get-end}
 use Rattle.dy_derive.specs.declared.deductions.Deductions.{Deductions}
-use Rattle.dy_derive.specs.Facts.{Fact}
 use Rattle.dy_derive.specs.Nodes.{IsTermAt}
 use Rattle.dy_derive.specs.MirrorKnowledge.{Grows, AreAny, AreTermsAt}
 use Rattle.dy_derive.specs.MirrorSteps.{AreEarlier, AddsTerm, KeepsTerms}

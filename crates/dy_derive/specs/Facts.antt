@@ -1,5 +1,5 @@
 -- What may be said of a trace, and the inferences by which an attacker derives it.
-use Rattle.std.specs.Prelude.{◌≡◌, ℕ, ◌+◌, List, [], ◌∷◌, ◌++◌, map}
+use Rattle.std.specs.Prelude.{ℕ, ◌+◌, List, [], ◌∷◌, map}
 use Rattle.dy_term.specs.Terms.{Term, Lit, Name, Nonce, Pair, Pk, Vk, Penc, Aead, Sign, Mac, Kdf, Hash}
 use Rattle.dy_flat.specs.Parts.{parts_of}
 use Rattle.dy_label.specs.Labels.{Place, Principal, Session, Version}

@@ -1,6 +1,6 @@
 -- How moves are made of a log: each step becomes one move, in the order of the log. It mirrors the code: what a recipe
 -- gives is its value.
-use Rattle.std.specs.Prelude.{◌≡◌, ℕ, ◌+◌, ◌<◌, List, [], ◌∷◌, Some, length, take, map, slice_get, slice_index}
+use Rattle.std.specs.Prelude.{◌≡◌, ℕ, ◌+◌, List, [], Some, length, take, map, slice_get, slice_index}
 use Rattle.std.specs.Option.{option_map_or}
 use Rattle.dy_term.specs.Terms as terms
 use Rattle.dy_term.specs.Terms.{Term}

@@ -1,4 +1,4 @@
-use Rattle.std.proofs.Common.{◌≡◌, ◌+◌, ◌-◌, ◌++◌, [], ◌∙◌, List, ℕ, Option, ap, sym, append_assoc, arith, take}
+use Rattle.std.proofs.Common.{◌++◌, [], ◌∙◌, List, ℕ, Option, ap, sym, append_assoc, arith, take}
 use Rattle.std.specs.List.{cons_option}
 use Rattle.dy_derive.specs.MirrorNonces.{nonces_in}
 use Rattle.dy_derive.proofs.NoncesNoted.{nonces_more}

@@ -1,4 +1,3 @@
-use Rattle.std.specs.List.{slice_get}
 use Rattle.std.proofs.lemmas.Result.{on_err_weaker}
 use Rattle.dy_derive.specs.MirrorGivenRules.{places_of}
 use Rattle.dy_derive.specs.MirrorKnowledge.{AreAny, AreAt}

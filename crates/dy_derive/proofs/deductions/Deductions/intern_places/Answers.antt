@@ -1,4 +1,4 @@
-use Rattle.std.proofs.Common.{◌≡◌, List, ℕ, [], ◌∷◌, refl, ap, arith}
+use Rattle.std.proofs.Common.{List, ℕ, [], ◌∷◌, refl, ap, arith}
 use Rattle.dy_derive.specs.declared.nodes.Node.TheVariants as code
 use Rattle.dy_derive.specs.Nodes.{fact_of}
 use Rattle.dy_derive.specs.MirrorKnowledge.{AreAny, AreAt}

@@ -1,4 +1,4 @@
-use Rattle.std.proofs.Common.{◌≡◌, ◌+◌, ◌<◌, ◌^◌, Some, Option, ℕ, map, sym, subst, ◌∙◌}
+use Rattle.std.proofs.Common.{◌+◌, ◌<◌, ◌^◌, Option, ℕ, map, sym, subst, ◌∙◌}
 use Rattle.std.specs.Option.{SomeIff}
 use Rattle.dy_recipe.specs.Meaning.{move_of, recipe_of}
 use Rattle.dy_derive.proofs.DerivableDecided.{no_place_none, place_gives}

@@ -1,4 +1,4 @@
-use Rattle.std.proofs.Common.{map, length, List, subst, ap}
+use Rattle.std.proofs.Common.{map, length, List, subst}
 use Rattle.dy_term.specs.Meaning.{tree_of}
 use Rattle.dy_chains.specs.declared.logs.Step.{Step}
 use Rattle.dy_recipe.specs.Meaning.{move_of, recipe_of}

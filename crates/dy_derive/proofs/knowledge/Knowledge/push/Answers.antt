@@ -1,4 +1,4 @@
-use Rattle.std.proofs.Common.{◌≡◌, ◌++◌, ◌∷◌, [], ◌+◌, ◌∙◌, ℕ, List, length, drop, refl, arith, ap}
+use Rattle.std.proofs.Common.{◌++◌, ◌∷◌, [], ◌∙◌, ℕ, List, length, drop, refl, arith, ap}
 use Rattle.dy_term.specs.Terms as terms
 use Rattle.dy_chains.specs.declared.rules.Rule.{Rule}
 use Rattle.dy_entry.specs.Meaning.{entry_of}
