@@ -4,7 +4,7 @@ use Rattle.std.specs.List.{slice_get, Contains, cons_option}
 use Rattle.std.specs.Option.{option_and_then}
 use Rattle.std.proofs.lemmas.List.{take_more}
 use Rattle.std.proofs.lemmas.List.Elements.{Contains-append_right, filter_map-append}
-use Rattle.std.proofs.lemmas.Option.{slice_get_cases, slice_get_within}
+use Rattle.std.proofs.lemmas.Option.{slice_get_cases, slice_get_within, get_or_from_slice_get}
 use Rattle.dy_term.specs.Terms as trees
 use Rattle.dy_chains.specs.declared.logs.Step.{Step}
 use Rattle.dy_entry.proofs.Traces.{slice_get-prefix}
@@ -12,6 +12,7 @@ use Rattle.dy_derive.specs.declared.nodes.Node.{Node}
 use Rattle.dy_derive.specs.declared.nodes.Node.TheVariants as code
 use Rattle.dy_derive.specs.Facts.{Fact, Derived}
 use Rattle.dy_derive.specs.Nodes.{fact_of, IsTermAt, IsTable}
+use Rattle.dy_derive.specs.MirrorKnowledge.{HasEachOnce}
 use Rattle.dy_derive.specs.MirrorNonces.{nonce_of_node, nonces_in}
 
 -- the nonce of a step
@@ -119,3 +120,39 @@ nonce_said_by_step nodes facts step index table at = elim (slice_get_cases nodes
       let within = slice_get_within facts step.fact (Derived (trees.Nonce index)) at in
       absurd (omega (arith, past.0, within, table.each))
 ]
+
+-- One item more, which is new.
+once_cons : (item : ℕ) (items : List ℕ) → (Contains items item → ⊥) → HasEachOnce items → HasEachOnce (item ∷ items)
+once_cons item items new once zero zero one at at_other = refl
+once_cons item items new once zero (suc other) one at at_other =
+    let stands : slice_get items other ≡ Some item = at_other ∙ sym at in
+    absurd (new (other, slice_get_within items other item stands, get_or_from_slice_get items other item item stands))
+once_cons item items new once (suc place) zero one at at_other =
+    let stands : slice_get items place ≡ Some item = at ∙ sym at_other in
+    absurd (new (place, slice_get_within items place item stands, get_or_from_slice_get items place item item stands))
+once_cons item items new once (suc place) (suc other) one at at_other = ap suc (once place other one at at_other)
+
+-- what the first step notes is not noted by the later ones
+noted_first : (nodes : List Node) (facts : List Fact) (first : Step) (steps : List Step) → IsTable nodes facts
+    → ((place other : ℕ) (step second : Step) → slice_get (first ∷ steps) place ≡ Some step → slice_get (first ∷ steps) other ≡ Some second → step.fact ≡ second.fact → place ≡ other)
+    → (index : ℕ) → nonce_of_step nodes first ≡ Some index → Contains (nonces_in nodes steps) index → ⊥
+noted_first nodes facts first steps table apart index is within =
+    let at = noted_at nodes steps index within in
+    let same : first.fact ≡ at.1.fact =
+    table.once first.fact at.1.fact (Derived (trees.Nonce index)) (step_says_nonce nodes facts first index table is) (step_says_nonce nodes facts at.1 index table at.3) in
+    let place = apart 0 (suc at.0) first at.1 refl at.2 same in
+    absurd (omega (arith, place))
+
+once_option : (o : Option ℕ) (items : List ℕ) → ((item : ℕ) → o ≡ Some item → Contains items item → ⊥) → HasEachOnce items → HasEachOnce (cons_option o items)
+once_option None items new once = once
+once_option (Some item) items new once = once_cons item items (new item refl) once
+
+-- Where no two steps are of one fact, no nonce is noted twice.
+pub nonces_once : (nodes : List Node) (facts : List Fact) (steps : List Step) → IsTable nodes facts
+    → ((place other : ℕ) (step second : Step) → slice_get steps place ≡ Some step → slice_get steps other ≡ Some second → step.fact ≡ second.fact → place ≡ other)
+    → HasEachOnce (nonces_in nodes steps)
+nonces_once nodes facts [] table apart = λ place other item at at_other. absurd (cc (at))
+nonces_once nodes facts (first ∷ steps) table apart =
+    once_option (nonce_of_step nodes first) (nonces_in nodes steps) (noted_first nodes facts first steps table apart)
+    (nonces_once nodes facts steps table
+    (λ place other step second at at_other same. let is = apart (suc place) (suc other) step second at at_other same in omega (arith, is)))

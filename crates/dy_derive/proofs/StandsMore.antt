@@ -8,6 +8,7 @@ use Rattle.std.proofs.lemmas.Option.{slice_get_cases, slice_get_within, slice_ge
 use Rattle.dy_term.specs.Terms as trees
 use Rattle.dy_chains.specs.declared.rules.Rule.{Rule}
 use Rattle.dy_chains.specs.declared.logs.Step.{Step}
+use Rattle.dy_chains.specs.Logs.{facts_of}
 use Rattle.dy_chains.specs.Chains.{IsChain}
 use Rattle.dy_entry.proofs.Traces.{slice_get-prefix}
 use Rattle.dy_traces.proofs.Prefixes.{in_prefix}
@@ -23,10 +24,10 @@ use Rattle.dy_derive.specs.Saturation.{IsHad}
 use Rattle.dy_derive.specs.MirrorRules.{StandForAll}
 use Rattle.dy_derive.specs.MirrorGiven.{Gives}
 use Rattle.dy_derive.specs.MirrorNonces.{nonces_in}
-use Rattle.dy_derive.specs.MirrorKnowledge.{IsDeduced, AddsRules, Grows, AreAny, Stands}
+use Rattle.dy_derive.specs.MirrorKnowledge.{IsDeduced, AddsRules, Grows, AreAny, HasEachOnce, Stands}
 use Rattle.dy_derive.proofs.AddedInferences.{entry_more}
 use Rattle.dy_derive.proofs.GrownDeductions.{deduced_of}
-use Rattle.dy_derive.proofs.NoncesNoted.{nonce_of_step, nonces_longer, noted, noted_at, step_says_nonce, nonce_said_by_step}
+use Rattle.dy_derive.proofs.NoncesNoted.{nonce_of_step, nonces_longer, noted, noted_at, nonces_once, step_says_nonce, nonce_said_by_step}
 use Rattle.dy_derive.proofs.LogValues.{step_at}
 
 -- The rules of an entry are added.
@@ -100,7 +101,12 @@ nonces_kept old new T stands grown within seen nonces entries =
           ∙ ap (λ n. nonces_in new.deductions.nodes.keys (take n new.deductions.chain.chain.log)) (sym seen);
       derived = λ index has. stands.derived index (subst (λ list. Contains list index) nonces has);
       all = λ index derives. subst (λ list. Contains list index) (sym nonces) (stands.all index derives);
+      once = subst HasEachOnce (sym nonces) stands.once;
     }
+
+-- the fact of a step stands in the log
+fact_at : (log : List Step) (place : ℕ) (step : Step) → slice_get log place ≡ Some step → slice_get (facts_of log) place ≡ Some step.fact
+fact_at log place step at = slice_get-map (λ (s : Step). s.fact) log place ∙ ap (option_map (λ (s : Step). s.fact)) at
 
 -- With one more entry: its rules were added, and the nonces of all steps that were not seen.
 pub stands_more : (old new : Knowledge) (mid : Deductions) (made : Given) (entry : Entry) (T : List Entry) → Stands old T
@@ -142,11 +148,14 @@ stands_more old new mid made entry T stands within grown adds chain entries seen
       derived = λ index has.
           let at = noted_at nodes log index (subst (λ list. Contains list index) all_nonces has) in
           sound facts deduced index
-          (at.1.fact, step_says_nonce nodes facts at.1 index deduced.table at.3, (at.0, slice_get-map (λ step. step.fact) log at.0 ∙ ap (option_map (λ step. step.fact)) at.2));
+          (at.1.fact, step_says_nonce nodes facts at.1 index deduced.table at.3, (at.0, fact_at log at.0 at.1 at.2));
       all = λ index derives.
           let had = complete facts deduced index derives in
           let at = step_at had.0 log had.2.0 had.2.1 in
           let is : nonce_of_step nodes at.0 ≡ Some index =
           nonce_said_by_step nodes facts at.0 index deduced.table (subst (λ n. IsTermAt facts n (trees.Nonce index)) (sym at.2) had.1) in
           subst (λ list. Contains list index) (sym all_nonces) (noted nodes log had.2.0 at.0 index at.1 is);
+      once = subst HasEachOnce (sym all_nonces) (nonces_once nodes facts log deduced.table (λ place other step second at at_other same.
+          chain.log.once place other step.fact (fact_at log place step at)
+          (subst (λ n. slice_get (facts_of log) other ≡ Some n) (sym same) (fact_at log other second at_other))));
     }

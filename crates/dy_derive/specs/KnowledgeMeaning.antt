@@ -1,5 +1,5 @@
 -- What the public calls of a Knowledge speak of.
-pub use Rattle.dy_derive.specs.MirrorKnowledge.{Stands}
+pub use Rattle.dy_derive.specs.MirrorKnowledge.{Stands, HasEachOnce}
 use Rattle.std.specs.Prelude.{ℕ, ◌≤◌, List, Contains}
 use Rattle.dy_term.specs.Terms.{Term, size}
 use Rattle.dy_term.specs.declared.limits.TheConstants.{MAX_NODES}

@@ -68,6 +68,11 @@ AreAt numbers said facts = map (slice_get facts) numbers ≡ map Some said
 abbrev pub AreTermsAt : List ℕ → List Term → List Fact → Type 0
 AreTermsAt numbers terms facts = AreAt numbers (map Derived terms) facts
 
+-- No item of the list stands at two places.
+abbrev pub HasEachOnce : List ℕ → Type 0
+HasEachOnce list =
+    (place other item : ℕ) → slice_get list place ≡ Some item → slice_get list other ≡ Some item → place ≡ other
+
 -- The knowledge is that of this trace.
 pub record Stands (knowledge : Knowledge) (T : List Entry) : Type 0 where
   pub facts : List Fact
@@ -80,3 +85,4 @@ pub record Stands (knowledge : Knowledge) (T : List Entry) : Type 0 where
       ≡ nonces_in knowledge.deductions.nodes.keys (take knowledge.seen knowledge.deductions.chain.chain.log)
   pub derived : (index : ℕ) → Contains knowledge.nonces.items index → Derives T (Nonce index)
   pub all : (index : ℕ) → Derives T (Nonce index) → Contains knowledge.nonces.items index
+  pub once : HasEachOnce knowledge.nonces.items

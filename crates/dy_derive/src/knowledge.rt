@@ -24,7 +24,7 @@ pub struct Knowledge {
 }
 
 impl Knowledge {
-    ghost use Rattle.dy_derive.specs.KnowledgeMeaning.{Stands, nonces_of, GivesSmallValues};
+    ghost use Rattle.dy_derive.specs.KnowledgeMeaning.{Stands, HasEachOnce, nonces_of, GivesSmallValues};
 
     /// What is derived of no entries. It refuses out of memory alone.
     pub fn new(alloc: Global) -> Result<Knowledge, Memory>
@@ -83,6 +83,7 @@ impl Knowledge {
             Contains (nonces_of self.now) index → Derives T (terms.Nonce index) }
         ensures all { (T : List said.Entry) → Stands self.now T → (index : ℕ) →
             Derives T (terms.Nonce index) → Contains (nonces_of self.now) index }
+        ensures once { (T : List said.Entry) → Stands self.now T → HasEachOnce (nonces_of self.now) }
     {
         self.nonces.as_slice()
     }
