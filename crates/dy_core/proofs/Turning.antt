@@ -1,7 +1,7 @@
 -- What a Book says when its instance takes a turn.
 use Rattle.std.proofs.Common.{◌≡◌, ℕ, zero, suc, ◌+◌, ◌<◌, ◌≤◌, ◌^◌, true, false, ◌==◌, List, [], ◌∷◌, ◌++◌, length, take, Option, Some, None, inl, inr, ap, sym, ◌∙◌, subst, arith}
 use Rattle.std.proofs.lemmas.List.{map-append, length-take-le}
-use Rattle.std.proofs.lemmas.Bool.{eq-eqb}
+use Rattle.std.proofs.lemmas.Bool.{eq-eqb, eqb-true}
 use Rattle.std.specs.List.{slice_get, position}
 use Rattle.dy_label.specs.declared.usages.Outcome.{Outcome}
 use Rattle.dy_syntax.specs.Files.{File}
@@ -20,7 +20,7 @@ use Rattle.dy_core.specs.declared.running.Running.{Running}
 use Rattle.dy_core.specs.Answers.{IsInstance}
 use Rattle.dy_core.specs.MirrorBooks.{IsBook}
 use Rattle.dy_traces.proofs.Prefixes.{in_prefix, in_order}
-use Rattle.dy_traces.proofs.Searches.{none_passes}
+use Rattle.dy_traces.proofs.Searches.{none_passes, found_passes}
 
 inside : (a b : Entry) → Some a ≡ Some b → a ≡ b
 inside a b same = cc
@@ -76,6 +76,13 @@ grown_to file entries roomy more entry rows more_rows adds same rows_same book =
     subst (λ (X : List Entry). IsBook file X more_rows)
     (sym (trace_more entries roomy more entry adds same))
     (subst (λ (rs : List Running). IsBook file (entries_of entries ++ entry_of entry ∷ []) rs) (sym rows_same) book)
+
+-- An instance that is kept has no End.
+pub place_goes_on : (file : File) (T : List Entry) (running : List Running) (instance at : ℕ)
+    → position (λ (kept : Running). kept.start == instance) running ≡ Some at → IsBook file T running → end_of T instance ≡ None
+place_goes_on file T running instance at found book =
+    let is = found_passes (λ (kept : Running). kept.start == instance) running at found in
+    subst (λ n. end_of T n ≡ None) (eqb-true is.0.start instance is.2) (book.kept at is.0 is.1).goes_on
 
 -- An instance without an End is kept.
 pub no_place : (file : File) (T : List Entry) (running : List Running) (instance : ℕ) → IsInstance T instance → end_of T instance ≡ None

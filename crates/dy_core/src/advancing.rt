@@ -132,11 +132,11 @@ impl Book {
         if !is_instance(self.entries.as_slice(), instance) {
             return Advanced::NoInstance;
         }
-        if let Some(index) = end_of(self.entries.as_slice(), instance) {
-            return Advanced::Ended { index };
+        if let Some(at) = place_of(self.running.as_slice(), instance) {
+            return self.take_step(at, instance);
         }
-        match place_of(self.running.as_slice(), instance) {
-            Some(at) => self.take_step(at, instance),
+        match end_of(self.entries.as_slice(), instance) {
+            Some(index) => Advanced::Ended { index },
             None => unreachable!(),
         }
     }
