@@ -1,0 +1,11 @@
+pub mod Knowing
+pub mod Breaches
+pub mod Reports
+pub mod Conditions
+pub mod ReportMeaning
+pub mod MirrorEvents
+pub mod MirrorNotes
+pub mod MirrorReports
+pub mod MirrorAuditors
+pub mod MoveText
+pub mod AuditText
