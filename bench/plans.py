@@ -18,8 +18,8 @@ def planned(text, rounds):
     return f"{text}plan {{\n{''.join(lines)}}}\n"
 
 
-def key_exchange(principals, times=1):
-    """Each principal exchanges keys with the next one, so many times."""
+def key_exchange(principals, times=1, more=()):
+    """Each principal exchanges keys with the next one, so many times. Then come more rounds."""
     pairs = [(i, i % principals + 1) for i in range(1, principals + 1)]
     rounds = [[f"k{i}: p{i} MakeKey();" for i, _ in pairs]]
     for n in range(times):
@@ -29,7 +29,17 @@ def key_exchange(principals, times=1):
             [f"c{n}x{i}: p{i} Confirm() on q{n}x{i} msg r{n}x{i}.1;" for i, j in pairs],
             [f"a{n}x{i}: p{j} Accept() on r{n}x{i} msg c{n}x{i}.1;" for i, j in pairs],
         ]
-    return planned(declarations(), rounds)
+    return planned(declarations(), [*rounds, *more])
+
+
+def all_corrupted(principals):
+    """The same, and then each state is taken."""
+    pairs = [(i, i % principals + 1) for i in range(1, principals + 1)]
+    return key_exchange(principals, more=[
+        [f"xq{i}: corrupt p{i} q0x{i} 1;" for i, _ in pairs],
+        [f"xr{i}: corrupt p{j} r0x{i} 1;" for i, j in pairs],
+        [f"xk{i}: corrupt p{i} k{i} 1;" for i, _ in pairs],
+    ])
 
 
 NOISY = (
@@ -55,11 +65,43 @@ def many_versions(steps):
     return planned(NOISY, [first, *later])
 
 
+# A session has a key of its own, and sends 31 nonces under it.
+SEALED = (
+    "dystar 1\nusage aead Box();\nusage nonce Rand();\ncase Box \"d\"(x: any);\nstate S (k: key here Box());\n"
+    "handler Make args() {\n  new k : Box() secret next;\n"
+    + "".join(f'  new n{i} : Rand() secret next;\n  send aead(k using Box(), "d"(n{i}), "");\n' for i in range(31))
+    + "  store S(k);\n}\n"
+)
+
+
+def attacked_at_the_end(steps, attacks):
+    """So many sessions of 66 entries. Then so many of their keys are taken, and as many messages are opened and sent."""
+    return planned(SEALED, [
+        [f"s{i}: p{i % 64} Make();" for i in range(steps)],
+        [f"x{i}: corrupt p{i % 64} s{i} 1;" for i in range(attacks)],
+        [f"j{i}: inject adec(msg s{i}.1, field s{i}.1.1);" for i in range(attacks)],
+    ])
+
+
+def all_told(steps):
+    """So many sessions of 66 entries, each of which sends 31 nonces that nobody may read."""
+    return planned(NOISY.replace("secret public", "secret nobody"), [[f"s{i}: p{i % 64} Make();" for i in range(steps)]])
+
+
 RUNS = {
     "64 principals": key_exchange(64),
     "60 principals, 1,020 steps": key_exchange(60, 4),
     "1,000 sessions": many_sessions(1000),
     "1,000 versions": many_versions(1000),
+}
+
+# At most 1,024 steps: 900 make 59,400 entries, and 124 are left for the attacker.
+PLAYS = {
+    "64 principals": key_exchange(64),
+    "64 principals, all corrupted": all_corrupted(64),
+    "900 sessions, 124 attacks": attacked_at_the_end(900, 62),
+    "30 sessions, 930 breaches": all_told(30),
+    "60 sessions, 1,860 breaches": all_told(60),
 }
 
 def timed(command, text):

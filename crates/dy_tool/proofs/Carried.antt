@@ -5,14 +5,14 @@ use Rattle.dy_io.specs.Faults.{Rose}
 use Rattle.dy_io.specs.Bytes.{CameAtMost}
 use Rattle.dy_lex.specs.declared.limits.TheConstants.{MAX_SOURCE_BYTES}
 use Rattle.dy_tool.specs.declared.commands.Command.{Command}
-use Rattle.dy_tool.specs.declared.commands.Command.TheVariants.{Check, Run}
+use Rattle.dy_tool.specs.declared.commands.Command.TheVariants.{Check, Run, Play}
 use Rattle.dy_tool.specs.declared.statuses.Status.{Status}
 use Rattle.dy_tool.specs.declared.statuses.Status.TheVariants.{Done, NotAccepted, Words, Input, ReadFault, WriteFault, Memory, TooLong}
 use Rattle.dy_tool.specs.Texts.{bad_words}
 use Rattle.dy_tool.specs.Due.{words_for, AreRefused, IsNamed, IsDue, EachInterleavingIsSecure, asks_for_typing}
 use Rattle.dy_tool.specs.Answers.{Owes, Says, CarriesOut}
 use Rattle.dy_tool.proofs.NamedCommands.{refused_or_named}
-use Rattle.dy_tool.proofs.Owed.{owes_words, said_leaves}
+use Rattle.dy_tool.proofs.Owed.{EndsWhereTyped, owes_words, said_leaves, said_done, said_unbreached}
 
 -- ---- bytes that are taken
 
@@ -92,6 +92,7 @@ carries_refusal commands words left held held_after source_faults sink_faults si
       leaves = said_leaves commands words left held held_after sink_faults sink_faults_after Words bad_words status owed says;
       checked = λ is done. absurd (not_done done);
       run = λ is done. absurd (not_done done);
+      played = λ is done. absurd (not_done done);
       taken = came_nothing (MAX_SOURCE_BYTES + 1) left;
       fault_within = λ is. absurd (said.no_read_fault is);
       memory_within = λ is. absurd (said.no_memory is);
@@ -110,13 +111,15 @@ pub carries_text : (commands : List Command) (command : Command) (words : List (
     → IsNamed commands words (Some command) → Owes commands words left owed_status text → Says held held_after sink_faults sink_faults_after owed_status text status
     → CameAtMost (MAX_SOURCE_BYTES + 1) left left_after → source_faults_after ≡ source_faults
     → ((asked : Command) → asks_for_typing asked ≡ true → words ≡ words_for asked → status ≡ Done → IfSome left EachInterleavingIsSecure)
+    → (words ≡ words_for Play → owed_status ≡ Done → IfSome left (EndsWhereTyped text))
     → CarriesOut commands words left left_after held held_after source_faults source_faults_after sink_faults sink_faults_after status
-carries_text commands command words left left_after held held_after source_faults source_faults_after sink_faults sink_faults_after owed_status text status named owed says came kept secure =
+carries_text commands command words left left_after held held_after source_faults source_faults_after sink_faults sink_faults_after owed_status text status named owed says came kept secure unbreached =
     let said = said_so commands words left held held_after sink_faults sink_faults_after owed_status text status owed says in
     record {
       leaves = said_leaves commands words left held held_after sink_faults sink_faults_after owed_status text status owed says;
       checked = secure Check refl;
       run = secure Run refl;
+      played = λ is done. said_unbreached left held held_after sink_faults sink_faults_after owed_status text status says done (unbreached is (said_done held held_after sink_faults sink_faults_after owed_status text status says done));
       taken = came;
       fault_within = λ is. absurd (said.no_read_fault is);
       memory_within = λ is. absurd (said.no_memory is);
@@ -138,6 +141,7 @@ carries_fault commands command words left left_after held source_faults source_f
   leaves = keeps_known held;
   checked = λ is done. absurd cc;
   run = λ is done. absurd cc;
+  played = λ is done. absurd cc;
   taken = one_more_came MAX_SOURCE_BYTES left left_after came;
   fault_within = λ is. came;
   memory_within = λ is. came;
@@ -159,6 +163,7 @@ carries_no_memory commands command words left left_after held source_faults sour
   leaves = keeps_known held;
   checked = λ is done. absurd cc;
   run = λ is done. absurd cc;
+  played = λ is done. absurd cc;
   taken = one_more_came MAX_SOURCE_BYTES left left_after came;
   fault_within = λ is. came;
   memory_within = λ is. came;

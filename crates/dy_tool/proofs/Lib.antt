@@ -4,6 +4,7 @@ pub mod Owed
 pub mod Carried
 pub mod OneInput
 pub mod OneDue
+pub mod Endings
 pub mod Within
 pub mod ShortFiles
 pub mod ReadBack

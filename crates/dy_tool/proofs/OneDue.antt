@@ -1,5 +1,5 @@
--- For one input one status and one text are due.
-use Rattle.std.proofs.Common.{◌≡◌, ℕ, List, length, Some, true, subst, sym, refl, ap, ◌∙◌, ◌⊎◌, inl, inr, arith}
+-- For one input one status is due, and one text but for the recipes of `play`.
+use Rattle.std.proofs.Common.{◌≡◌, ◌≢◌, ℕ, List, length, map, ◌++◌, Some, true, subst, sym, refl, ap, ◌∙◌, ◌⊎◌, inl, inr, arith}
 use Rattle.dy_syntax.specs.Files.{File, Decl}
 use Rattle.dy_parse.specs.Reading.{Reads}
 use Rattle.dy_show.specs.Canonical.{canon}
@@ -7,7 +7,7 @@ use Rattle.dy_cases.specs.DeclaredParts.{handlers_in}
 use Rattle.dy_typing.specs.Typing.{AreTyped, IsRefusedAt}
 use Rattle.dy_sound.specs.Acceptance.{IsTyped, IsRefusedFile}
 use Rattle.dy_tool.specs.declared.commands.Command.{Command}
-use Rattle.dy_tool.specs.declared.commands.Command.TheVariants.{Check, Show, Run}
+use Rattle.dy_tool.specs.declared.commands.Command.TheVariants.{Check, Show, Run, Play}
 use Rattle.dy_tool.specs.declared.statuses.Status.{Status}
 use Rattle.dy_tool.specs.declared.statuses.Status.TheVariants.{Done, NotAccepted, Words, Input, ReadFault, WriteFault, Memory, TooLong}
 use Rattle.dy_tool.specs.Texts.{accepted_text, refused_text, bad_words}
@@ -16,7 +16,11 @@ use Rattle.dy_entry.specs.Entries.{Entry}
 use Rattle.dy_traces.specs.Interleavings.{Interleaves}
 use Rattle.dy_plan.specs.Completeness.{IsSerial}
 use Rattle.dy_trace_text.specs.TraceText.{trace_text}
-use Rattle.dy_tool.specs.Due.{AreRefused, IsNamed, IsUntyped, IsRefusedInput, IsTooLong, IsSerialRun, IsDue, IsDueBy, IsDoneBy, asks_for_typing}
+use Rattle.dy_know.specs.Breaches.{without_recipe}
+use Rattle.dy_know.specs.Reports.{Report, IsReport}
+use Rattle.dy_know.specs.AuditText.{audit_text}
+use Rattle.dy_tool.specs.Due.{AreRefused, IsNamed, IsUntyped, IsRefusedInput, IsTooLong, IsSerialRun, IsDue, IsDueBy, IsDoneBy, asks_for_typing, words_for}
+use Rattle.dy_tool.specs.Playing.{AreOfOneRun}
 use Rattle.dy_tool.proofs.NamedCommands.{one_command, refused_or_named}
 use Rattle.dy_tool.proofs.OneInput.{ReadingLaws, no_fault, one_fault_text}
 
@@ -25,6 +29,8 @@ pub record Laws : Type 0 where
   pub reading : ReadingLaws
   pub untyped : (decls : List Decl) (line condition field : ℕ) → IsRefusedAt decls line condition field → AreTyped decls (handlers_in decls) → ⊥
   pub one_serial : (bytes : List ℕ) (file : File) (T other : List Entry) → Interleaves bytes file T → IsSerial file.plan T → Interleaves bytes file other → IsSerial file.plan other → T ≡ other
+  pub one_known : (decls : List Decl) (T : List Entry) (report other : Report) → IsReport decls T report → IsReport decls T other → report.known ≡ other.known
+  pub one_breaches : (decls : List Decl) (T : List Entry) (report other : Report) → IsReport decls T report → IsReport decls T other → map without_recipe report.breaches ≡ map without_recipe other.breaches
   pub place : (decls : List Decl) (line condition field other_line other_condition other_field : ℕ) → IsRefusedAt decls line condition field → IsRefusedAt decls other_line other_condition other_field → (line ≡ other_line) × (condition ≡ other_condition) × (field ≡ other_field)
 
 -- the text names a place by its three numbers
@@ -68,6 +74,7 @@ protocol_done : (command : Command) (bytes text : List ℕ) → IsDoneBy command
 protocol_done Check bytes text due = record { file = due.0; protocol = record { reads = due.1; well_formed = due.2.0 } }
 protocol_done Show bytes text due = record { file = due.0; protocol = due.1 }
 protocol_done Run bytes text due = protocol_run bytes due.0 due.1 due.3
+protocol_done Play bytes text due = protocol_run bytes due.0 due.1 due.3
 
 protocol_untyped : (bytes text : List ℕ) → IsUntyped bytes text → HasProtocol bytes
 protocol_untyped bytes text due = record { file = due.0; protocol = record { reads = due.4; well_formed = due.5.0 } }
@@ -76,6 +83,7 @@ pub typed_done : (command : Command) (bytes text : List ℕ) → asks_for_typing
 typed_done Check bytes text asks due = record { file = due.0; reads = due.1; typed = due.2 }
 typed_done Show bytes text asks due = absurd cc
 typed_done Run bytes text asks due = record { file = due.0; reads = due.3.interleaves.reads; typed = due.2 }
+typed_done Play bytes text asks due = absurd cc
 
 module _ (laws : Laws) (bytes : List ℕ) where
   one_file : (a b : File) → Reads bytes a → Reads bytes b → a ≡ b
@@ -116,19 +124,46 @@ module _ (laws : Laws) (bytes : List ℕ) where
   one_cause command _ _ _ _ (is_long text d) (is_refused other_text o) = absurd (fault_or_long other_text text o d)
   one_cause command _ _ _ _ (is_long text d) (is_long other_text o) = refl
 
-  -- what is done has one text: of a plan there is one serial run
-  one_done : (command : Command) (text other : List ℕ) → IsDoneBy command bytes text → IsDoneBy command bytes other → text ≡ other
-  one_done Check text other due also =
+  -- of a plan there is one serial run
+  one_run : (file other : File) (T U : List Entry) → IsSerialRun bytes file T → IsSerialRun bytes other U → T ≡ U
+  one_run file other T U run run_other =
+      let same = one_file file other run.interleaves.reads run_other.interleaves.reads in
+      let here : IsSerialRun bytes other T = subst (λ (f : File). IsSerialRun bytes f T) same run in
+      laws.one_serial bytes other T U here.interleaves here.serial run_other.interleaves run_other.serial
+
+  -- what is done has one text, but for `play`
+  one_done : (command : Command) (text other : List ℕ) → command ≢ Play → IsDoneBy command bytes text → IsDoneBy command bytes other → text ≡ other
+  one_done Check text other is due also =
       let same = one_file due.0 also.0 due.1 also.1 in
       due.3 ∙ ap (λ (file : File). accepted_text (length (handlers_in file.decls))) same ∙ sym also.3
-  one_done Show text other due also =
+  one_done Show text other is due also =
       let same = one_file due.0 also.0 due.1.reads also.1.reads in
       due.2 ∙ ap (λ (file : File). canon file) same ∙ sym also.2
-  one_done Run text other due also =
-      let same = one_file due.0 also.0 due.3.interleaves.reads also.3.interleaves.reads in
-      let run : IsSerialRun bytes also.0 due.1 = subst (λ (file : File). IsSerialRun bytes file due.1) same due.3 in
-      let trace = laws.one_serial bytes also.0 due.1 also.1 run.interleaves run.serial also.3.interleaves also.3.serial in
-      due.4 ∙ ap trace_text trace ∙ sym also.4
+  one_done Run text other is due also = due.4 ∙ ap trace_text (one_run due.0 also.0 due.1 also.1 due.3 also.3) ∙ sym also.4
+  one_done Play text other is due also = absurd (is refl)
+
+  -- with `play` there is one run
+  one_play : (text other : List ℕ) → IsDoneBy Play bytes text → IsDoneBy Play bytes other → AreOfOneRun bytes text other
+  one_play text other due also =
+      let file = also.0 in
+      let T = also.1 in
+      let same : due.0 ≡ file = one_file due.0 file due.3.interleaves.reads also.3.interleaves.reads in
+      let trace : due.1 ≡ T = one_run due.0 file due.1 T due.3 also.3 in
+      let there : IsReport file.decls due.1 due.2 = subst (λ (f : File). IsReport f.decls due.1 due.2) same due.4 in
+      let report : IsReport file.decls T due.2 = subst (λ (U : List Entry). IsReport file.decls U due.2) trace there in
+      record {
+        file = file;
+        T = T;
+        run = also.3;
+        report = due.2;
+        is_report = report;
+        text_is = due.5 ∙ ap (λ (U : List Entry). trace_text U ++ audit_text due.2) trace;
+        other_report = also.2;
+        is_other_report = also.4;
+        other_is = also.5;
+        same_known = laws.one_known file.decls T due.2 also.2 report also.4;
+        same_breaches = laws.one_breaches file.decls T due.2 also.2 report also.4;
+      }
 
   one_place : (text other : List ℕ) → IsUntyped bytes text → IsUntyped bytes other → text ≡ other
   one_place text other due also =
@@ -137,15 +172,15 @@ module _ (laws : Laws) (bytes : List ℕ) where
       let place = laws.place also.0.decls due.1 due.2 due.3 also.1 also.2 also.3 refused.1 also.5.1 in
       due.6 ∙ same_place due.1 due.2 due.3 also.1 also.2 also.3 place.0 place.1 place.2 ∙ sym also.6
 
-  one_text_due : (command : Command) (status : Status) (text other : List ℕ) → IsDueBy command bytes status text → IsDueBy command bytes status other → text ≡ other
-  one_text_due command Done text other due also = one_done command text other due also
-  one_text_due command NotAccepted text other due also = one_place text other due.1 also.1
-  one_text_due command Words text other due also = absurd due
-  one_text_due command Input text other due also = one_fault_text laws.reading bytes text other due.1 also.1
-  one_text_due command ReadFault text other due also = absurd due
-  one_text_due command WriteFault text other due also = absurd due
-  one_text_due command Memory text other due also = absurd due
-  one_text_due command TooLong text other due also = due.1 ∙ sym also.1
+  one_text_due : (command : Command) (status : Status) (text other : List ℕ) → (command ≡ Play → status ≢ Done) → IsDueBy command bytes status text → IsDueBy command bytes status other → text ≡ other
+  one_text_due command Done text other is due also = one_done command text other (λ play. is play refl) due also
+  one_text_due command NotAccepted text other is due also = one_place text other due.1 also.1
+  one_text_due command Words text other is due also = absurd due
+  one_text_due command Input text other is due also = one_fault_text laws.reading bytes text other due.1 also.1
+  one_text_due command ReadFault text other is due also = absurd due
+  one_text_due command WriteFault text other is due also = absurd due
+  one_text_due command Memory text other is due also = absurd due
+  one_text_due command TooLong text other is due also = due.1 ∙ sym also.1
 
   -- the words are refused, or those of a command
   record IsAnswered (commands : List Command) (words : List (List ℕ)) (status : Status) (text : List ℕ) : Type 0 where
@@ -185,9 +220,9 @@ module _ (laws : Laws) (bytes : List ℕ) where
         let here : IsDueBy again.command bytes status text = subst (λ (c : Command). IsDueBy c bytes status text) same known.due in
         one_cause again.command status other text other_text (cause_of again.command bytes status text here) (cause_of again.command bytes other other_text again.due)
 
-  -- and one text
-  pub one_text_due_with : (commands : List Command) (words : List (List ℕ)) (status : Status) (text other : List ℕ) → IsDue commands words bytes status text → IsDue commands words bytes status other → text ≡ other
-  one_text_due_with commands words status text other due due_other = both (words_or_command commands words status text due) (words_or_command commands words status other due_other) where
+  -- and one text, but for what `play` writes
+  pub one_text_due_with : (commands : List Command) (words : List (List ℕ)) (status : Status) (text other : List ℕ) → (words ≡ words_for Play → status ≢ Done) → IsDue commands words bytes status text → IsDue commands words bytes status other → text ≡ other
+  one_text_due_with commands words status text other is due due_other = both (words_or_command commands words status text due) (words_or_command commands words status other due_other) where
     both : Split commands words status text → Split commands words status other → text ≡ other
     both (inl refused) (inl again) = refused.2 ∙ sym again.2
     both (inl refused) (inr known) = absurd (refused_or_named commands words known.command refused.1 known.named)
@@ -195,4 +230,12 @@ module _ (laws : Laws) (bytes : List ℕ) where
     both (inr known) (inr again) =
         let same = same_command commands words known.command again.command known.named again.named in
         let here : IsDueBy again.command bytes status text = subst (λ (c : Command). IsDueBy c bytes status text) same known.due in
-        one_text_due again.command status text other here again.due
+        one_text_due again.command status text other (λ play. is (again.named.1 ∙ ap words_for play)) here again.due
+
+  -- and with those of `play` one run
+  pub one_run_due_with : (commands : List Command) (words : List (List ℕ)) (text other : List ℕ) → words ≡ words_for Play → IsDue commands words bytes Done text → IsDue commands words bytes Done other → AreOfOneRun bytes text other
+  one_run_due_with commands words text other is due also = one_play text other (played text due) (played other also) where
+    played : (written : List ℕ) → IsDue commands words bytes Done written → IsDoneBy Play bytes written
+    played written done =
+        let same : done.0 ≡ Play = one_command done.0 Play (sym done.1.1 ∙ is) in
+        subst (λ (c : Command). IsDoneBy c bytes written) same done.2

@@ -3,12 +3,16 @@ use Rattle.std.proofs.Common.{◌≡◌, ℕ, ◌+◌, List, [], length, Option,
 use Rattle.std.proofs.lemmas.List.{length-append}
 use Rattle.dy_io.specs.Bytes.{Came}
 use Rattle.dy_lex.specs.declared.limits.TheConstants.{MAX_SOURCE_BYTES}
+use Rattle.dy_syntax.specs.Files.{File}
+use Rattle.dy_parse.specs.Reading.{Reads}
+use Rattle.dy_sound.specs.Acceptance.{IsTyped}
 use Rattle.dy_tool.specs.declared.statuses.Status.{Status}
 use Rattle.dy_tool.specs.declared.statuses.Status.TheVariants.{Done, NotAccepted, Words, Input, ReadFault, WriteFault, Memory, TooLong}
 use Rattle.dy_tool.specs.Texts.{bad_words, too_long}
 use Rattle.dy_tool.specs.declared.commands.Command.{Command}
 use Rattle.dy_tool.specs.Due.{AreRefused, IsNamed, IsDue, IsDueBy}
-use Rattle.dy_tool.specs.Answers.{Owes, Wrote, Leaves, Says}
+use Rattle.dy_tool.specs.Playing.{EndsUnbreached}
+use Rattle.dy_tool.specs.Answers.{Owes, Wrote, Leaves, Says, WritesUnbreached}
 
 -- what a command is to answer is due with its words
 pub due_with : (commands : List Command) (command : Command) (words : List (List ℕ)) (bytes : List ℕ) (status : Status) (text : List ℕ) → IsNamed commands words (Some command) → IsDueBy command bytes status text → IsDue commands words bytes status text
@@ -62,6 +66,18 @@ said_done held after faults faults_after status text result said done =
       | inl whole ↦ sym whole.0 ∙ done
       | inr broken ↦ absurd (let other : WriteFault ≡ Done = sym broken.0 ∙ done in cc)
     ]
+
+-- the text ends with the line `breaches 0`, where the bytes are a typed file
+abbrev pub EndsWhereTyped : List ℕ → List ℕ → Type 0
+EndsWhereTyped text bytes = (file : File) → Reads bytes file → IsTyped file → EndsUnbreached text
+
+-- a text that ends so, and is said
+pub said_unbreached : (left held after : Option (List ℕ)) (faults faults_after : ℕ) (status : Status) (text : List ℕ) (result : Status) → Says held after faults faults_after status text result → result ≡ Done → IfSome left (EndsWhereTyped text) → IfSome left (WritesUnbreached held after)
+said_unbreached None held after faults faults_after status text result said done ends = tt
+said_unbreached (Some bytes) held after faults faults_after status text result said done ends = λ file reads typed. elim said [
+  | inl whole ↦ (text, whole.1, ends file reads typed)
+  | inr broken ↦ absurd (let other : WriteFault ≡ Done = sym broken.0 ∙ done in cc)
+]
 
 -- what holds of the bytes that came holds of those that were there, where they are told
 pub told_holds : (P : List ℕ → Type 0) (left : Option (List ℕ)) (bytes : List ℕ) → IfSome left (λ all. bytes ≡ all) → P bytes → IfSome left P

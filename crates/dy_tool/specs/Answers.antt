@@ -4,11 +4,15 @@ use Rattle.std.specs.Io.KnownBytes.{Keeps, Appends}
 use Rattle.dy_io.specs.Faults.{Rose}
 use Rattle.dy_io.specs.Bytes.{CameAtMost, AppendsPrefix}
 use Rattle.dy_lex.specs.declared.limits.TheConstants.{MAX_SOURCE_BYTES}
+use Rattle.dy_syntax.specs.Files.{File}
+use Rattle.dy_parse.specs.Reading.{Reads}
+use Rattle.dy_sound.specs.Acceptance.{IsTyped}
 use Rattle.dy_tool.specs.declared.commands.Command.{Command}
-use Rattle.dy_tool.specs.declared.commands.Command.TheVariants.{Check, Run}
+use Rattle.dy_tool.specs.declared.commands.Command.TheVariants.{Check, Run, Play}
 use Rattle.dy_tool.specs.declared.statuses.Status.{Status}
 use Rattle.dy_tool.specs.declared.statuses.Status.TheVariants.{Done, Words, ReadFault, WriteFault, Memory}
 use Rattle.dy_tool.specs.Due.{words_for, AreRefused, IsDue, EachInterleavingIsSecure}
+use Rattle.dy_tool.specs.Playing.{EndsUnbreached}
 
 -- A text is due with this status, for the bytes that the source had left, where it tells them.
 pub record Owes (commands : List Command) (words : List (List ℕ)) (left : Option (List ℕ)) (status : Status)
@@ -49,6 +53,12 @@ Says held held_after faults faults_after status text result =
     ⊎ ((result ≡ WriteFault) × AppendsPrefix held held_after text
     × Rose faults faults_after × (faults ≤ faults_after))
 
+-- Where the bytes are a typed file, a text is written whose last line is `breaches 0`.
+abbrev pub WritesUnbreached : (held held_after : Option (List ℕ)) (bytes : List ℕ) → Type 0
+WritesUnbreached held held_after bytes =
+    (file : File) → Reads bytes file → IsTyped file
+    → (text : List ℕ) × Appends held held_after text × EndsUnbreached text
+
 -- What carrying out one of these commands does. It speaks of what the source has left, what the sink holds, and
 -- their counts of faults, each before and after.
 pub record CarriesOut (commands : List Command) (words : List (List ℕ))
@@ -60,6 +70,8 @@ pub record CarriesOut (commands : List Command) (words : List (List ℕ))
   pub checked : words ≡ words_for Check → status ≡ Done → IfSome left EachInterleavingIsSecure
   -- Where `run` is Done, every interleaving of the bytes is secure.
   pub run : words ≡ words_for Run → status ≡ Done → IfSome left EachInterleavingIsSecure
+  -- Where `play` is Done and the bytes are a typed file, what it wrote ends with the line `breaches 0`.
+  pub played : words ≡ words_for Play → status ≡ Done → IfSome left (WritesUnbreached held held_after)
   -- At most one byte past the limit is taken.
   pub taken : CameAtMost (MAX_SOURCE_BYTES + 1) left left_after
   -- Where reading failed, none past the limit is taken.

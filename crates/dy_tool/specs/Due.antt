@@ -1,5 +1,5 @@
 -- Which status and which text are due, for the words and for the bytes that the source has.
-use Rattle.std.specs.Prelude.{◌≡◌, ◌≢◌, ℕ, ◌<◌, ◌≤◌, ◌⊎◌, Bool, true, false, List, [], ◌∷◌, length, map}
+use Rattle.std.specs.Prelude.{◌≡◌, ◌≢◌, ℕ, ◌<◌, ◌≤◌, ◌⊎◌, Bool, true, false, List, [], ◌∷◌, ◌++◌, length, map}
 use Rattle.std.specs.Prelude.{codes, Option, Some, None, String, string_bytes}
 use Rattle.std.specs.declared.alloc.Global.{Global}
 use Rattle.dy_lex.specs.declared.limits.TheConstants.{MAX_SOURCE_BYTES}
@@ -13,8 +13,10 @@ use Rattle.dy_sound.specs.Secure.{IsSecure}
 use Rattle.dy_sound.specs.Acceptance.{IsTyped, IsRefusedFile}
 use Rattle.dy_plan.specs.Completeness.{IsSerial}
 use Rattle.dy_trace_text.specs.TraceText.{trace_text}
+use Rattle.dy_know.specs.Reports.{Report, IsReport}
+use Rattle.dy_know.specs.AuditText.{audit_text}
 use Rattle.dy_tool.specs.declared.commands.Command.{Command}
-use Rattle.dy_tool.specs.declared.commands.Command.TheVariants.{Check, Show, Run}
+use Rattle.dy_tool.specs.declared.commands.Command.TheVariants.{Check, Show, Run, Play}
 use Rattle.dy_tool.specs.declared.statuses.Status.{Status}
 use Rattle.dy_tool.specs.declared.statuses.Status.TheVariants.{Done, NotAccepted, Words, Input, ReadFault, WriteFault, Memory, TooLong}
 use Rattle.dy_tool.specs.Texts.{accepted_text, refused_text, bad_words, too_long}
@@ -50,20 +52,24 @@ pub record IsSerialRun (bytes : List ℕ) (file : File) (T : List Entry) : Type 
   pub interleaves : Interleaves bytes file T
   pub serial : IsSerial file.plan T
 
--- what a command writes where nothing is refused: `check` the verdict, `show` the canonical text, and `run` the trace
--- of the plan
+-- what a command writes where nothing is refused: `check` the verdict, `show` the canonical text, `run` the trace of
+-- the plan, and `play` that trace and then the report of an audit
 abbrev pub IsDoneBy : Command → List ℕ → List ℕ → Type 0
 IsDoneBy Check bytes text =
     (file : File) × Reads bytes file × IsTyped file × (text ≡ accepted_text (length (handlers_in file.decls)))
 IsDoneBy Show bytes text = (file : File) × IsProtocol bytes file × (text ≡ canon file)
 IsDoneBy Run bytes text =
     (file : File) × (T : List Entry) × IsTyped file × IsSerialRun bytes file T × (text ≡ trace_text T)
+IsDoneBy Play bytes text =
+    (file : File) × (T : List Entry) × (report : Report) × IsSerialRun bytes file T × IsReport file.decls T report
+    × (text ≡ trace_text T ++ audit_text report)
 
 -- the commands that ask whether the file is typed
 abbrev pub asks_for_typing : Command → Bool
 asks_for_typing Check = true
 asks_for_typing Show = false
 asks_for_typing Run = true
+asks_for_typing Play = false
 
 -- what a command is to answer for these bytes
 abbrev pub IsDueBy : Command → List ℕ → Status → List ℕ → Type 0
@@ -85,10 +91,11 @@ abbrev pub words_for : Command → List (List ℕ)
 words_for Check = codes "check" ∷ []
 words_for Show = codes "show" ∷ []
 words_for Run = codes "run" ∷ []
+words_for Play = codes "play" ∷ []
 
 -- the commands that `quiet` carries out, and those of `tool`
 abbrev pub quiet_commands : List Command
-quiet_commands = Check ∷ Show ∷ []
+quiet_commands = Check ∷ Show ∷ Play ∷ []
 
 abbrev pub tool_commands : List Command
 tool_commands = Run ∷ quiet_commands

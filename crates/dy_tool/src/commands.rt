@@ -5,6 +5,8 @@ ghost use Rattle.dy_tool.specs.Due.{IsNamed, IsDueBy, asks_for_typing, EachInter
 
 use crate::answers::Answer;
 use crate::checking::check;
+use crate::laws::typed_files_play_unbreached;
+use crate::playing::play;
 use crate::running::run;
 use crate::showing::print_canonical;
 use crate::statuses::Status;
@@ -19,10 +21,12 @@ pub(crate) enum Command {
     Check,
     Show,
     Run,
+    Play,
 }
 
-/// Carries out the command of these words, which are those after the program's name: `check` or `show`. `check` reads a
-/// protocol file and writes the verdict on it; `show` writes its canonical text.
+/// Carries out the command of these words, which are those after the program's name: `check`, `show` or `play`. `check`
+/// reads a protocol file and writes the verdict on it; `show` writes its canonical text. `play` runs its plan step by
+/// step in text order, and writes the trace and what an attacker learns in it, whether or not the file is typed.
 ///
 /// The refusals come in this order: the words, a read fault or the length as the bytes come, the
 /// file, writing. It waits for nobody, and returns for all words, sources and sinks.
@@ -32,7 +36,8 @@ pub fn quiet<S: Source, K: Sink>(
     source: &mut S,
     sink: &mut K,
 ) -> Status
-    // The status and the text are those that are due, and where `check` is Done, every interleaving is secure.
+    // The status and the text are those that are due. Where `check` is Done, every interleaving is secure, and where
+    // `play` is Done for a typed file, its text ends with the line `breaches 0`.
     ensures carried { CarriesOut quiet_commands (words_of words.now) (S.left source.old) (S.left source.new)
         (K.held sink.old) (K.held sink.new) (S.faults source.old) (S.faults source.new)
         (K.faults sink.old) (K.faults sink.new) result }
@@ -74,7 +79,10 @@ fn carry_out<S: Source, K: Sink>(
     };
     match read_all(alloc, source, MAX_SOURCE_BYTES) {
         Ok(bytes) => match answer(alloc, command, &bytes) {
-            Ok(answer) => say(sink, answer.status, answer.text.as_slice()),
+            Ok(answer) => {
+                typed_files_play_unbreached();
+                say(sink, answer.status, answer.text.as_slice())
+            }
             Err(_) => Status::Memory,
         },
         Err(ReadError::TooLong) => say(sink, Status::TooLong, b"too long\n"),
@@ -101,6 +109,8 @@ fn quiet_command(words: &[String]) -> Option<Command>
         Some(Command::Check)
     } else if is_word(words, "show") {
         Some(Command::Show)
+    } else if is_word(words, "play") {
+        Some(Command::Play)
     } else {
         None
     }
@@ -128,6 +138,7 @@ fn answer(alloc: Global, command: Command, bytes: &[u8]) -> Result<Answer, Memor
         Command::Check => check(alloc, bytes),
         Command::Show => print_canonical(alloc, bytes),
         Command::Run => run(alloc, bytes),
+        Command::Play => play(alloc, bytes),
     }
 }
 

@@ -54,7 +54,7 @@ fn print_run(alloc: Global, bytes: &[u8], accepted: &Accepted) -> Result<Answer,
 }
 
 /// A Book in which the plan of a protocol was run, step by step in text order.
-fn run_plan(alloc: Global, bytes: &[u8], file: &File) -> Result<Book, Memory>
+pub(crate) fn run_plan(alloc: Global, bytes: &[u8], file: &File) -> Result<Book, Memory>
     requires few { length bytes.now ≤ MAX_SOURCE_BYTES }
     requires protocol { IsProtocol bytes.now (file_of file.now) }
     ensures { IfOk result (λ book. IsSerialRun bytes.now (file_of file.now) (trace_of book)) }

@@ -8,6 +8,7 @@ use std::process::Abort;
 use std::test::*;
 
 mod plans;
+mod plays;
 mod protocols;
 mod rules;
 mod typing;
@@ -201,7 +202,7 @@ fn what_is_no_protocol_is_refused_at_its_line(rt: HostRuntime) -> Result<(), Fai
     for (input, fault) in cases {
         let text = format!(in rt.alloc(); "line {fault}\n")?;
         assert_answers(&rt, input.as_bytes(), Status::Input, text.as_bytes())?;
-        for word in ["show", "run"] {
+        for word in ["show", "run", "play"] {
             let got = carry_out(rt.alloc(), &[word], input.as_bytes(), KIND)?;
             assert_eq!(rt; got.status, Status::Input);
             assert_eq!(rt; got.written.as_slice(), text.as_bytes());
@@ -283,10 +284,12 @@ fn one_byte_past_the_limit_is_too_long(rt: HostRuntime) -> Result<(), Fail> {
 
 #[test]
 fn refused_words_read_nothing(rt: HostRuntime) -> Result<(), Fail> {
-    let lists: [&[&str]; 10] = [
+    let lists: [&[&str]; 12] = [
         &[],
         &["run", "check"],
         &["Run"],
+        &["play", "run"],
+        &["Play"],
         &["show", "show"],
         &["Show"],
         &["check", "x"],

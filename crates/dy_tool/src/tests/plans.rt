@@ -64,11 +64,13 @@ fn a_write_that_fails_leaves_a_prefix_of_the_trace(rt: HostRuntime) -> Result<()
 }
 
 #[test]
-fn quiet_runs_no_plan(rt: HostRuntime) -> Result<(), Fail> {
+fn quiet_plays_a_plan_and_does_not_run_it(rt: HostRuntime) -> Result<(), Fail> {
     let alloc = rt.alloc();
+    let played = format!(in alloc; "{PINGED}breaches 0\n")?;
     for (word, status, text) in [
         ("run", Status::Words, "bad words\n"),
         ("check", Status::Done, "accepted 1 handlers\n"),
+        ("play", Status::Done, played.as_str()),
     ] {
         let words = vec![in alloc; String::from_str(alloc, word)?]?;
         let mut source = MemSource::new(PING.as_bytes().to_vec(alloc)?, 1000, Vec::new(alloc));

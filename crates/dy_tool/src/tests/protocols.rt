@@ -58,30 +58,43 @@ handler Accept on Replied(nb, name a) args() recv m {
 }
 ";
 
-/// What `check` says of the protocol with these lines 8, 30 and 35: the case of message 2, and how it is sent and read.
-fn check_with(alloc: Global, case: &str, sent: &str, read: &str) -> Result<Outcome, AllocError> {
-    let input = format!(in alloc; "{DECLARED}{case}{ASKED}{sent}{REPLIED}{read}{CONFIRMED}")?;
-    carry_out(alloc, &["check"], input.as_bytes(), KIND)
+/// Lines 8, 30 and 35: the case of message 2, and how it is sent and read.
+#[derive(Clone, Copy)]
+pub(super) struct Reply {
+    case: &'static str,
+    sent: &'static str,
+    read: &'static str,
+}
+
+/// The responder's name stands in message 2.
+pub(super) const NAMED: Reply = Reply {
+    case: "case Dec \"reply\"(na: upto join(owner, b), nb: secret join(owner, b), b: name) requires Reply(b, owner, nb);",
+    sent: "  send penc(pa using Dec(a), \"reply\"(na, nb, self));",
+    read: "  popen m with sk using Dec(self) as \"reply\"(=na, nb, =b);",
+};
+
+/// It does not.
+pub(super) const NAMELESS: Reply = Reply {
+    case: "case Dec \"reply\"(na: upto owner, nb: secret owner);",
+    sent: "  send penc(pa using Dec(a), \"reply\"(na, nb));",
+    read: "  popen m with sk using Dec(self) as \"reply\"(=na, nb);",
+};
+
+/// The protocol with this message 2, and a plan.
+pub(super) fn protocol(alloc: Global, reply: Reply, plan: &str) -> Result<String, AllocError> {
+    let Reply { case, sent, read } = reply;
+    format!(in alloc; "{DECLARED}{case}{ASKED}{sent}{REPLIED}{read}{CONFIRMED}{plan}")
 }
 
 #[test]
 fn the_name_of_the_responder_is_needed(rt: HostRuntime) -> Result<(), Fail> {
-    let got = check_with(
-        rt.alloc(),
-        "case Dec \"reply\"(na: upto join(owner, b), nb: secret join(owner, b), b: name) requires Reply(b, owner, nb);",
-        "  send penc(pa using Dec(a), \"reply\"(na, nb, self));",
-        "  popen m with sk using Dec(self) as \"reply\"(=na, nb, =b);",
-    )?;
-    assert_eq!(rt; got.written.as_slice(), b"accepted 5 handlers\n".as_slice());
-    let got = check_with(
-        rt.alloc(),
-        "case Dec \"reply\"(na: upto owner, nb: secret owner);",
-        "  send penc(pa using Dec(a), \"reply\"(na, nb));",
-        "  popen m with sk using Dec(self) as \"reply\"(=na, nb);",
-    )?;
-    assert_eq!(rt;
-        got.written.as_slice(),
-        b"refused line 30 c4 field 2\n".as_slice()
-    );
+    for (reply, text) in [
+        (NAMED, "accepted 5 handlers\n"),
+        (NAMELESS, "refused line 30 c4 field 2\n"),
+    ] {
+        let input = protocol(rt.alloc(), reply, "")?;
+        let got = carry_out(rt.alloc(), &["check"], input.as_bytes(), KIND)?;
+        assert_eq!(rt; got.written.as_slice(), text.as_bytes());
+    }
     Ok(())
 }

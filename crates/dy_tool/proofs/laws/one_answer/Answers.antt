@@ -1,8 +1,5 @@
-use Rattle.std.proofs.Common.{subst}
-use Rattle.dy_tool.specs.declared.statuses.Status.{Status}
-use Rattle.dy_tool.specs.Due.{IsDue}
 use Rattle.dy_tool.proofs.OneInput.{ReadingLaws}
-use Rattle.dy_tool.proofs.OneDue.{Laws, one_status_due, one_text_due_with}
+use Rattle.dy_tool.proofs.OneDue.{Laws, one_status_due, one_text_due_with, one_run_due_with}
 use Rattle.dy_tool.proofs.laws.one_answer.Goals as goal
 
 pub returns : goal.returns
@@ -15,7 +12,16 @@ returns c =
       one_bad = c.one_parse.ensures.one_line;
       one_over = c.one_parse.ensures.one_limit;
     } in
-    let laws : Laws = record { reading = reading; untyped = c.one_refused_place.ensures.untyped; place = c.one_refused_place.ensures.place; one_serial = c.one_serial_interleaving.ensures } in
-    λ commands words bytes status other text other_text due due_other.
-    let same = one_status_due laws bytes commands words status other text other_text due due_other in
-    (same, one_text_due_with laws bytes commands words other text other_text (subst (λ (s : Status). IsDue commands words bytes s text) same due) due_other)
+    let laws : Laws = record {
+      reading = reading;
+      untyped = c.one_refused_place.ensures.untyped;
+      one_serial = c.one_serial_interleaving.ensures;
+      one_known = c.one_report_for_a_trace.ensures.known;
+      one_breaches = c.one_report_for_a_trace.ensures.breaches;
+      place = c.one_refused_place.ensures.place;
+    } in
+    record {
+      status = λ commands words bytes status other text other_text due also. one_status_due laws bytes commands words status other text other_text due also;
+      text = λ commands words bytes status text other is due also. one_text_due_with laws bytes commands words status text other is due also;
+      play = λ commands words bytes text other is due also. one_run_due_with laws bytes commands words text other is due also;
+    }
